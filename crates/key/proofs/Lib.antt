@@ -1,0 +1,9 @@
+pub mod Checks
+pub mod Dates
+pub mod Headers
+pub mod Numbers
+pub mod Patches
+pub mod Pieces
+pub mod Signs
+pub mod Texts
+pub mod Writes

@@ -1,0 +1,82 @@
+-- Pieces: which answer a place gets, from facts, and what an answer says of the file.
+use Prim.Native.Nat.{ℕ, suc, _+_, _≤_, _<_, _-_}
+use mathlib.Core.List.{List}
+use mathlib.Core.Bool.{Bool, true, false}
+use mathlib.Core.Path.{_≡_, refl, sym, ap, _∙_}
+use native.Mathlib.Omega.{arith}
+use borrow.Author.Tests.{lt-ltb, le-ltb}
+use lib.ListN.{length}
+use Rattle.key.specs.Answer.{done, refusal}
+use Rattle.key.specs.Check.{all, All, pick}
+use Rattle.key.specs.Number.{numAt, signedOf}
+use Rattle.key.specs.Header.{keyAt, headerFits, headerIn}
+use Rattle.key.specs.Piece.{sizeAt, recordThere, sized, recordFits, pieceAt, sizeOf, answerOf, pieceAnswer}
+use Rattle.key.specs.declared.header.Key.{Key}
+use Rattle.key.specs.declared.header.Header.{Header}
+use Rattle.key.specs.declared.header.Header.the-variants.{Good, Bad}
+use Rattle.key.specs.declared.piece.Piece.{Piece}
+use Rattle.key.specs.declared.piece.Piece.the-variants.{Record, Gap, Refused}
+use Rattle.key.proofs.Checks.{yes-all, not-all, all-yes}
+use Rattle.key.proofs.Headers.{from-good, from-bad}
+
+module _ (s : List ℕ) (p : ℕ) where
+  -- a number below 2^31 gives a record, any other a gap
+  pub size-plus : numAt 4 s p < 2147483648 → sizeAt s p ≡ numAt 4 s p
+  unfolding sizeAt signedOf
+  size-plus h = rw (lt-ltb (numAt 4 s p + numAt 4 s p) 4294967296 (omega arith))
+
+  pub is-record : numAt 4 s p < 2147483648 → recordThere s p ≡ true
+  unfolding recordThere signedOf
+  is-record h = rw (lt-ltb (numAt 4 s p + numAt 4 s p) 4294967296 (omega arith))
+
+  pub size-minus : 2147483648 ≤ numAt 4 s p → numAt 4 s p < 4294967296 → sizeAt s p ≡ 4294967296 - numAt 4 s p
+  unfolding sizeAt signedOf
+  size-minus h l = rw (le-ltb (numAt 4 s p + numAt 4 s p) 4294967296 (omega arith)) (omega arith)
+
+  pub is-gap : 2147483648 ≤ numAt 4 s p → recordThere s p ≡ false
+  unfolding recordThere signedOf
+  is-gap h = rw (le-ltb (numAt 4 s p + numAt 4 s p) 4294967296 (omega arith))
+
+  -- an answer, with its number, place and count
+  abbrev pub Answered : Piece → Type 0
+  Answered r = (r ≡ pieceAt s p) × (answerOf r ≡ pieceAnswer s p)
+
+  pub no-piece : (All (sized s p) → ⊥) → Answered (Refused 5 p)
+  unfolding pieceAt pieceAnswer
+  no-piece h = let e = not-all (sized s p) h in (rw e, rw e)
+
+  pub gap-there : 2147483648 ≤ numAt 4 s p → All (sized s p) → {n : ℕ} → n ≡ sizeAt s p → Answered (Gap n)
+  unfolding pieceAt pieceAnswer
+  gap-there l h e = let f = yes-all (sized s p) h in let g = is-gap l in (rw (f, g) (ap Gap e), rw (f, g) (ap done e))
+
+  bad-record : numAt 4 s p < 2147483648 → All (sized s p) → (All (recordFits s p) → ⊥) → Answered (Refused 6 p)
+  unfolding pieceAt pieceAnswer
+  bad-record l h b = let f = yes-all (sized s p) h in let g = is-record l in let e = not-all (recordFits s p) b in (rw (f, g, e), rw (f, g, e))
+
+  -- a record of n bytes, by its header
+  module _ (n : ℕ) (is : n ≡ numAt 4 s p) (l : n < 2147483648) (h : All (sized s p)) where
+    low : numAt 4 s p < 2147483648
+    low = omega arith
+
+    size : p + n ≡ p + sizeAt s p
+    size = omega (arith, size-plus low)
+
+    pub bad-header : Bad ≡ headerIn s p (p + n) → Answered (Refused 6 p)
+    bad-header e = bad-record low h (λ f. from-bad s p (p + sizeAt s p) (rw size at e) (f .1))
+
+    pub other-seek : {k : Key} → Good k ≡ headerIn s p (p + n) → (k .seekkey ≡ p → ⊥) → Answered (Refused 6 p)
+    other-seek e d = bad-record low h (λ f. d (ap (λ (k : Key). k .seekkey) (from-good s p (p + n) e .0) ∙ f .0))
+
+    count : {k : Key} → k ≡ keyAt s p → k .nbytes ≡ sizeAt s p
+    unfolding keyAt
+    count i = ap (λ (k : Key). k .nbytes) i ∙ sym (size-plus low)
+
+    pub record-there : {k : Key} → Good k ≡ headerIn s p (p + n) → k .seekkey ≡ p → Answered (Record k)
+    unfolding pieceAt pieceAnswer
+    record-there {k} e d =
+        let g = from-good s p (p + n) e in
+        let f : All (recordFits s p) = (ap (λ (k : Key). k .seekkey) (sym (g .0)) ∙ d, (rw size at (g .1))) in
+        let a = yes-all (sized s p) h in
+        let b = is-record low in
+        let c = yes-all (recordFits s p) f in
+        (rw (a, b, c) (ap Record (g .0)), rw (a, b, c) (ap done (count (g .0))))

@@ -1,0 +1,77 @@
+use native.Mathlib.Omega.{arith}
+use denote.Ref.{now}
+use mathlib.Core.List.{_++_}
+use Rattle.key.specs.Number.{beBytes}
+use Rattle.key.proofs.Patches.{part-then}
+use borrow.Author.Needs.{needs}
+use Rattle.key.proofs.writer.put_offsets.Statement.{statement}
+use Rattle.key.proofs.writer.put_offsets.Tie as tie
+
+put16-requires : tie.Need-put16-requires
+put16-requires c κs = search needs
+
+sub-put16 : tie.Need-sub-put16
+sub-put16 c = search needs
+
+part-put16-start : tie.Need-part-put16-start
+part-put16-start c = search needs
+
+part-put16-end : tie.Need-part-put16-end
+part-put16-end c = search needs
+
+put16-requires-2 : tie.Need-put16-requires-2
+put16-requires-2 c κs = search needs
+
+sub-put32 : tie.Need-sub-put32
+sub-put32 c = search needs
+
+part-put32-start : tie.Need-part-put32-start
+part-put32-start c = search needs
+
+part-put32-end : tie.Need-part-put32-end
+part-put32-end c = search needs
+
+put32-requires : tie.Need-put32-requires
+put32-requires c κs = search needs
+
+sub-put32-2 : tie.Need-sub-put32-2
+sub-put32-2 c = search needs
+
+part-put32-start-2 : tie.Need-part-put32-start-2
+part-put32-start-2 c = search needs
+
+part-put32-end-2 : tie.Need-part-put32-end-2
+part-put32-end-2 c = search needs
+
+put32-requires-2 : tie.Need-put32-requires-2
+put32-requires-2 c κs = search needs
+
+same-length : tie.Need-same-length
+same-length c = search needs
+
+returns : tie.Need-returns
+unfolding beBytes
+returns c = let a = c .before .before .before .before .before .before .before .before .before .before .before .before .before .before .before .before .before .args in
+    part-then (now (a .part)) 0 (((beBytes 2 (a .keylen)) ++ (beBytes 2 (a .cycle))) ++ (beBytes 4 (a .seekkey))) (beBytes 4 (a .seekpdir)) _
+    (part-then (now (a .part)) 0 ((beBytes 2 (a .keylen)) ++ (beBytes 2 (a .cycle))) (beBytes 4 (a .seekkey)) _ (part-then (now (a .part)) 0 (beBytes 2 (a .keylen)) (beBytes 2 (a .cycle)) _ (c .before .before .before .before .before .before .before .before .before .before .before .before .before .before .put16 .ensures) (omega arith) (omega arith) (c .before .before .before .before .before .before .before .before .before .before .put162 .ensures)) (omega arith) (omega arith) (c .before .before .before .before .before .before .put32 .ensures))
+    (omega arith) (omega arith) (c .before .before .put322 .ensures)
+
+pub put-offsets-spec : {M : Type 1} → statement M
+put-offsets-spec =
+    tie.close
+    (tie.spec
+    put16-requires
+    sub-put16
+    part-put16-start
+    part-put16-end
+    put16-requires-2
+    sub-put32
+    part-put32-start
+    part-put32-end
+    put32-requires
+    sub-put32-2
+    part-put32-start-2
+    part-put32-end-2
+    put32-requires-2
+    same-length
+    returns)

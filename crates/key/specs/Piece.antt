@@ -1,0 +1,55 @@
+-- Pieces: document 01, "Pieces".
+use Prim.Native.Nat.{ℕ, _+_}
+use mathlib.Core.List.{List, [], _∷_}
+use mathlib.Core.Bool.{Bool}
+use lib.ListN.{length}
+use lib.IntN.{natAbs}
+use lib.Signed.{nonNeg}
+use Rattle.key.specs.Check.{Check, le, eq, all, pick}
+use Rattle.key.specs.Number.{numAt, signedOf}
+use Rattle.key.specs.Header.{keyAt, headerFits}
+use Rattle.key.specs.Answer.{done, refusal}
+use Rattle.key.specs.declared.Answer.{Answer}
+use Rattle.key.specs.declared.piece.Piece.{Piece}
+use Rattle.key.specs.declared.piece.Piece.the-variants.{Record, Gap, Refused}
+
+-- the signed four-byte number n at p gives a record of n bytes, or a gap of −n bytes
+unfoldable pub sizeAt : List ℕ → ℕ → ℕ
+sizeAt s p = natAbs (signedOf 4 (numAt 4 s p))
+
+unfoldable pub recordThere : List ℕ → ℕ → Bool
+recordThere s p = nonNeg (signedOf 4 (numAt 4 s p))
+
+-- its size is at least 4 and it ends at or before END, the length of the lent bytes
+abbrev pub sized : List ℕ → ℕ → List Check
+sized s p = le 4 (sizeAt s p) ∷ le (p + sizeAt s p) (length s) ∷ []
+
+-- a record's header is well formed, read within its n bytes only, and its SeekKey is p
+abbrev pub recordFits : List ℕ → ℕ → List Check
+recordFits s p = eq (keyAt s p .seekkey) p ∷ headerFits s p (p + sizeAt s p)
+
+-- a record, a gap or a refusal
+unfoldable pub pieceAt : List ℕ → ℕ → Piece
+pieceAt s p =
+    pick (all (sized s p))
+    (pick (recordThere s p) (pick (all (recordFits s p)) (Record (keyAt s p)) (Refused 6 p)) (Gap (sizeAt s p)))
+    (Refused 5 p)
+
+-- the bytes that a piece takes; a refusal takes none
+abbrev pub sizeOf : Piece → ℕ
+sizeOf (Record k) = k .nbytes
+sizeOf (Gap n) = n
+sizeOf (Refused c p) = 0
+
+-- number, place and count of each case: a piece is 0, 0 and its size; a refusal its number, its place and 0
+abbrev pub answerOf : Piece → Answer
+answerOf (Record k) = done (k .nbytes)
+answerOf (Gap n) = done n
+answerOf (Refused c p) = refusal c p
+
+-- the table of refusals: 5, no piece of that size; 6, record not well formed, or SeekKey not p; the place is p
+unfoldable pub pieceAnswer : List ℕ → ℕ → Answer
+pieceAnswer s p =
+    pick (all (sized s p))
+    (pick (recordThere s p) (pick (all (recordFits s p)) (done (sizeAt s p)) (refusal 6 p)) (done (sizeAt s p)))
+    (refusal 5 p)

@@ -1,0 +1,49 @@
+// Pieces: a record, a gap or a refusal at a place.
+ghost use mathlib.Core.Path.{_≡_};
+ghost use Rattle.key.specs.Piece.{pieceAt, answerOf, pieceAnswer};
+use crate::header::Header;
+use crate::header::Key;
+use crate::header::read_header;
+use crate::number::be32;
+
+pub enum Piece {
+    Record(Key),
+    Gap(u32),
+    Refused(u32, usize),
+}
+
+// The piece at any place of a file.
+pub fn read_piece(file: &[u8], at: usize) -> Piece
+    ensures { λ r. ⌜ (r ≡ pieceAt (now (file .entry)) at) × (answerOf r ≡ pieceAnswer (now (file .entry)) at) ⌝ }
+{
+    let end = file.len();
+    if end <= at {
+        return Piece::Refused(5, at);
+    }
+    let left = end - at;
+    let n = be32(file, at);
+    if n < 2147483648 {
+        if n < 4 {
+            return Piece::Refused(5, at);
+        }
+        if left < n as usize {
+            return Piece::Refused(5, at);
+        }
+        let Header::Good(k) = read_header(file, at, at + n as usize) else {
+            return Piece::Refused(6, at);
+        };
+        let seekkey = k.seekkey;
+        if seekkey != at as u64 {
+            return Piece::Refused(6, at);
+        }
+        return Piece::Record(k);
+    }
+    let size = 4294967295 - n;
+    if size < 3 {
+        return Piece::Refused(5, at);
+    }
+    if left <= size as usize {
+        return Piece::Refused(5, at);
+    }
+    Piece::Gap(size + 1)
+}
