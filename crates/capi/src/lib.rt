@@ -1,0 +1,159 @@
+// The C interface: thin functions over the proved crates, with the same promises. A slice is passed as a
+// pointer and a length. The number is returned; place and count are written in every case.
+ghost use mathlib.Core.Path.{_≡_};
+ghost use Rattle.key.specs.Date.{packAnswer, unpacked};
+ghost use Rattle.key.specs.Piece.{pieceAt, pieceAnswer};
+ghost use Rattle.key.specs.Writer.{writeAnswer, writeBuffer};
+ghost use Rattle.capi.specs.Told.{Told, dateList, pieceList, recordList, dateOf, fieldsOf, storedCycle};
+use key::date::Date;
+use key::header::Key;
+use key::number::Bits;
+use key::piece::Piece;
+use key::writer::Fields;
+
+// Packs a date: 0 and the packed value as count, or 18.
+#[no_mangle]
+pub extern "C" fn rootmap_pack_date(
+    year: u32,
+    month: u32,
+    day: u32,
+    hour: u32,
+    minute: u32,
+    second: u32,
+    place: &mut u64,
+    count: &mut u64,
+) -> u64
+    ensures { λ r. ⌜ Told (packAnswer (dateOf year month day hour minute second)) r (now (place .exit)) (now (count .exit)) ⌝ }
+{
+    let a = key::date::pack_date(Date {
+        year,
+        month,
+        day,
+        hour,
+        minute,
+        second,
+    });
+    *place = a.place;
+    *count = a.count;
+    a.number
+}
+
+// Unpacks any 32 bits: year, month, day, hour, minute, second.
+#[no_mangle]
+pub extern "C" fn rootmap_unpack_date(packed: u32, fields: &mut [u32; 6])
+    ensures { λ _. ⌜ now (fields .exit) ≡ dateList (unpacked packed) ⌝ }
+{
+    let d = key::date::unpack_date(packed);
+    *fields = [d.year, d.month, d.day, d.hour, d.minute, d.second];
+}
+
+// The stored bits of a cycle.
+fn stored_cycle(z: i32) -> u64
+    ensures { λ r. ⌜ r ≡ storedCycle z ⌝ }
+{
+    match key::number::bits_of(z) {
+        Bits::Held(n) => n as u64,
+        Bits::Wide => 0,
+    }
+}
+
+// Writes a record's fields and where its strings stand.
+fn show_record(k: Key, fields: &mut [u64; 15])
+    ensures { λ _. ⌜ now (fields .exit) ≡ recordList k ⌝ }
+{
+    let cycle = stored_cycle(k.cycle);
+    let class = k.class;
+    let name = k.name;
+    let title = k.title;
+    *fields = [
+        1,
+        k.nbytes as u64,
+        k.version as u64,
+        k.objlen as u64,
+        k.datime as u64,
+        k.keylen as u64,
+        cycle,
+        k.seekkey,
+        k.seekpdir,
+        class.start as u64,
+        class.len as u64,
+        name.start as u64,
+        name.len as u64,
+        title.start as u64,
+        title.len as u64,
+    ];
+}
+
+// The piece at a place: 0 and its size as count, with its fields; or 5 or 6 at the place, with zeros.
+#[no_mangle]
+pub extern "C" fn rootmap_read_piece(
+    file: &[u8],
+    at: u64,
+    fields: &mut [u64; 15],
+    place: &mut u64,
+    count: &mut u64,
+) -> u64
+    ensures { λ r. ⌜ Told (pieceAnswer (now (file .entry)) at) r (now (place .exit)) (now (count .exit))
+        × (now (fields .exit) ≡ pieceList (pieceAt (now (file .entry)) at)) ⌝ }
+{
+    match key::piece::read_piece(file, at as usize) {
+        Piece::Record(k) => {
+            show_record(k, fields);
+            *place = 0;
+            *count = k.nbytes as u64;
+            0
+        }
+        Piece::Gap(n) => {
+            *fields = [2, n as u64, 0, 0, 0, 0, 0, 0, 0, 0, 0, 0, 0, 0, 0];
+            *place = 0;
+            *count = n as u64;
+            0
+        }
+        Piece::Refused(c, p) => {
+            *fields = [0, 0, 0, 0, 0, 0, 0, 0, 0, 0, 0, 0, 0, 0, 0];
+            *place = p as u64;
+            *count = 0;
+            c as u64
+        }
+    }
+}
+
+// Writes a key header at seek_key: 0 and KeyLen as count; or 15, 16 or 17, with the buffer unchanged.
+#[no_mangle]
+pub extern "C" fn rootmap_write_key(
+    nbytes: u32,
+    version: u32,
+    objlen: u32,
+    datime: u32,
+    cycle: i32,
+    seek_key: u64,
+    seek_pdir: u64,
+    class_name: &[u8],
+    name: &[u8],
+    title: &[u8],
+    buf: &mut [u8],
+    place: &mut u64,
+    count: &mut u64,
+) -> u64
+    ensures { λ r. ⌜ Told
+        (writeAnswer (fieldsOf nbytes version objlen datime cycle «seek_key» «seek_pdir») (now («class_name» .entry))
+        (now (name .entry)) (now (title .entry)) (now (buf .entry)))
+        r (now (place .exit)) (now (count .exit))
+        × (now (buf .exit)
+        ≡ writeBuffer (fieldsOf nbytes version objlen datime cycle «seek_key» «seek_pdir») (now («class_name» .entry))
+        (now (name .entry)) (now (title .entry)) (now (buf .entry))) ⌝ }
+{
+    let f = Fields {
+        nbytes,
+        version,
+        objlen,
+        datime,
+        cycle,
+        seekkey: seek_key,
+        seekpdir: seek_pdir,
+    };
+    let a = key::writer::write_key(f, class_name, name, title, buf);
+    *place = a.place;
+    *count = a.count;
+    a.number
+}

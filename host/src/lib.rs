@@ -1,0 +1,12 @@
+//! A second implementation of the ROOT file reader, written from the papers alone, and what the
+//! tests need to compare it with the proved library.
+//!
+//! - `ffi`: the C interface of the proved library.
+//! - `model`: the second implementation.
+//! - `gen`: inputs, the same in every run.
+//! - `compare`: both on one input, and a comparison of all that they answer and write.
+
+pub mod compare;
+pub mod ffi;
+pub mod gen;
+pub mod model;

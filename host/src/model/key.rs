@@ -1,0 +1,151 @@
+//! Key headers, the pieces of a file, and the key writer.
+
+use super::bytes::Cursor;
+use super::{number, Answer};
+use std::ops::Range;
+
+/// The greatest ObjLen and Nbytes.
+const MOST_BYTES: u64 = 2_147_483_647;
+/// The longest string of a key.
+const LONGEST: usize = 254;
+/// The bytes of a key header before its strings.
+const FIXED: usize = 26;
+
+/// The key header of a record. A string is its range of bytes in the file.
+#[derive(Clone, Debug, PartialEq, Eq)]
+pub struct Key {
+    pub nbytes: u32,
+    pub version: u16,
+    pub objlen: u32,
+    pub datime: u32,
+    pub keylen: u16,
+    pub cycle: i16,
+    pub seek_key: u32,
+    pub seek_pdir: u32,
+    pub class: Range<usize>,
+    pub name: Range<usize>,
+    pub title: Range<usize>,
+}
+
+/// A record with its key, or a gap of a size.
+#[derive(Clone, Debug, PartialEq, Eq)]
+pub enum Piece {
+    Record(Key),
+    Gap(u64),
+}
+
+impl Piece {
+    pub fn size(&self) -> u64 {
+        match self {
+            Piece::Record(key) => key.nbytes.into(),
+            Piece::Gap(size) => *size,
+        }
+    }
+}
+
+/// The piece at `at`, or the number of the refusal there.
+pub fn read_piece(file: &[u8], at: u64) -> Result<Piece, u64> {
+    let start = usize::try_from(at).map_err(|_| number::CHAIN)?;
+    let n = Cursor::new(file, start).i32().ok_or(number::CHAIN)?;
+    let size = n.unsigned_abs() as usize;
+    if size < 4 || size > file.len() - start {
+        return Err(number::CHAIN);
+    }
+    if n < 0 {
+        return Ok(Piece::Gap(size as u64));
+    }
+    match read_key(&file[..start + size], start) {
+        Some(key) if u64::from(key.seek_key) == at => Ok(Piece::Record(key)),
+        _ => Err(number::KEY),
+    }
+}
+
+/// The well-formed key header from `start` on; `bytes` end where its record ends.
+fn read_key(bytes: &[u8], start: usize) -> Option<Key> {
+    let mut cursor = Cursor::new(bytes, start);
+    let key = Key {
+        nbytes: cursor.u32()?,
+        version: cursor.u16()?,
+        objlen: cursor.u32()?,
+        datime: cursor.u32()?,
+        keylen: cursor.u16()?,
+        cycle: cursor.i16()?,
+        seek_key: cursor.u32()?,
+        seek_pdir: cursor.u32()?,
+        class: cursor.string()?,
+        name: cursor.string()?,
+        title: cursor.string()?,
+    };
+    let sum = cursor.at() - start;
+    let fits = well_formed(key.nbytes, key.version.into(), key.objlen, key.keylen.into(), sum);
+    fits.then_some(key)
+}
+
+/// Whether a header whose strings are of a good length is well formed. `sum` is what it takes.
+fn well_formed(nbytes: u32, version: u32, objlen: u32, keylen: usize, sum: usize) -> bool {
+    (1..=1000).contains(&version)
+        && u64::from(objlen) <= MOST_BYTES
+        && u64::from(nbytes) <= MOST_BYTES
+        && sum <= keylen
+        && keylen as u64 <= u64::from(nbytes)
+}
+
+/// What the key writer takes: a header's fields but KeyLen, wider than they are stored.
+#[derive(Clone, Copy, Debug, PartialEq, Eq)]
+pub struct NewKey<'a> {
+    pub nbytes: u32,
+    pub version: u32,
+    pub objlen: u32,
+    pub datime: u32,
+    pub cycle: i32,
+    pub seek_key: u64,
+    pub seek_pdir: u64,
+    pub class: &'a [u8],
+    pub name: &'a [u8],
+    pub title: &'a [u8],
+}
+
+impl NewKey<'_> {
+    /// What its header takes.
+    pub fn sum(&self) -> usize {
+        FIXED + 3 + self.class.len() + self.name.len() + self.title.len()
+    }
+}
+
+/// Writes a plain key header into `buf` at its SeekKey.
+pub fn write_key(key: &NewKey, buf: &mut [u8]) -> Answer {
+    if [key.class, key.name, key.title].iter().any(|string| string.len() > LONGEST) {
+        return Answer::refusal(number::NAME, 0);
+    }
+    let Some(header) = encode(key) else {
+        return Answer::refusal(number::FIELD, 0);
+    };
+    // The header is encoded, so seek_key has 32 bits.
+    if key.seek_key + u64::from(key.nbytes) > buf.len() as u64 {
+        return Answer::refusal(number::ROOM, 0);
+    }
+    buf[key.seek_key as usize..][..header.len()].copy_from_slice(&header);
+    Answer::success(header.len() as u64)
+}
+
+/// The bytes of a plain header, if it is well formed and each value fits its field.
+fn encode(key: &NewKey) -> Option<Vec<u8>> {
+    let sum = key.sum();
+    if !well_formed(key.nbytes, key.version, key.objlen, sum, sum) {
+        return None;
+    }
+    let mut header = Vec::with_capacity(sum);
+    header.extend(key.nbytes.to_be_bytes());
+    header.extend(u16::try_from(key.version).ok()?.to_be_bytes());
+    header.extend(key.objlen.to_be_bytes());
+    header.extend(key.datime.to_be_bytes());
+    header.extend(u16::try_from(sum).ok()?.to_be_bytes());
+    header.extend(i16::try_from(key.cycle).ok()?.to_be_bytes());
+    header.extend(u32::try_from(key.seek_key).ok()?.to_be_bytes());
+    header.extend(u32::try_from(key.seek_pdir).ok()?.to_be_bytes());
+    for string in [key.class, key.name, key.title] {
+        header.push(u8::try_from(string.len()).ok()?);
+        header.extend(string);
+    }
+    Some(header)
+}

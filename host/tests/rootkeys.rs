@@ -1,0 +1,84 @@
+//! The program rootkeys: what it prints, and its exit status.
+
+use kirovadzun_host::gen::{one_root, plain_key_of, Rng};
+use std::fs;
+use std::path::{Path, PathBuf};
+use std::process::Command;
+
+const LISTED: &str = "\
+100\t68\trecord\tTFile\ta;1\t2024-03-15 12:30:45
+168\t50\trecord\tTObjString\tx;1\t2024-03-15 12:30:45
+218\t79\trecord\tTFile\ta;1\t2024-03-15 12:30:45
+297\t12\tgap
+309\t55\trecord\tTFile\ta;1\t2024-03-15 12:30:45
+";
+
+fn store(name: &str, bytes: &[u8]) -> PathBuf {
+    let path = Path::new(env!("CARGO_TARGET_TMPDIR")).join(name);
+    fs::write(&path, bytes).unwrap();
+    path
+}
+
+/// The exit status and what was printed to standard output.
+fn rootkeys(paths: &[&Path]) -> (i32, String) {
+    let output = Command::new(env!("CARGO_BIN_EXE_rootkeys")).args(paths).output().unwrap();
+    let said_why = !output.stderr.is_empty();
+    assert_eq!(said_why, output.status.code() == Some(2), "standard error is for status 2");
+    (output.status.code().unwrap(), String::from_utf8(output.stdout).unwrap())
+}
+
+#[test]
+fn walks_to_the_end() {
+    let path = store("listed.root", &one_root());
+    assert_eq!(rootkeys(&[&path]), (0, LISTED.into()));
+    let bare = store("bare.root", &[0; 100]);
+    assert_eq!(rootkeys(&[&bare]), (0, String::new()));
+}
+
+#[test]
+fn stops_at_a_refusal() {
+    let mut file = one_root();
+    let before = LISTED.split_inclusive('\n').take(3).collect::<String>();
+    let path = store("cut.root", &file[..300]);
+    assert_eq!(rootkeys(&[&path]), (1, format!("{before}refused 5 at 297\n")));
+    file[309 + 21] ^= 1;
+    let path = store("moved.root", &file);
+    assert_eq!(rootkeys(&[&path]), (1, format!("{before}297\t12\tgap\nrefused 6 at 309\n")));
+}
+
+#[test]
+fn cannot_read() {
+    assert_eq!(rootkeys(&[&store("short.root", &[0; 99])]), (2, String::new()));
+    assert_eq!(rootkeys(&[Path::new("no such folder/no such file")]), (2, String::new()));
+    assert_eq!(rootkeys(&[]), (2, String::new()));
+}
+
+#[test]
+fn several_files() {
+    let good = store("good.root", &one_root());
+    let bad = store("bad.root", &[0; 104]);
+    let short = store("tiny.root", &[]);
+    let (status, printed) = rootkeys(&[&bad, &good]);
+    let expected = format!("{}:\nrefused 5 at 100\n{}:\n{LISTED}", bad.display(), good.display());
+    assert_eq!((status, printed), (1, expected));
+    assert_eq!(rootkeys(&[&short, &bad]).0, 2);
+}
+
+#[test]
+fn names_are_escaped() {
+    let mut rng = Rng::new(50);
+    let mut key = plain_key_of(&mut rng, 100, [0; 3], 7);
+    key.strings = [b"A B".to_vec(), b"\x1b[31m\n\xff".to_vec(), vec![]];
+    key.keylen = key.sum() as u16;
+    (key.nbytes, key.cycle, key.datime) = (key.keylen.into(), 0xffff, 0);
+    let file = [rng.bytes(100), key.header()].concat();
+    let (status, printed) = rootkeys(&[&store("escaped.root", &file)]);
+    assert_eq!((status, printed.as_str()), (0, "100\t39\trecord\tA B\t\\x1b[31m\\n\\xff;-1\t1995-00-00 00:00:00\n"));
+}
+
+#[test]
+fn help_says_it_does_not_audit() {
+    let (status, printed) = rootkeys(&[Path::new("--help")]);
+    assert_eq!(status, 0);
+    assert!(printed.contains("does NOT audit") && printed.contains("no pass"));
+}

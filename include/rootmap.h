@@ -1,0 +1,81 @@
+/*
+ * rootmap: the C interface of the proved reader of ROOT files.
+ *
+ * Link target/staticlib/libcapi.a, which `rt staticlib capi` writes.
+ *
+ * Every function that answers returns a number, 0 for success, and writes *place and *count in
+ * every case:
+ *
+ *    0  success
+ *    5  no piece of that size stands at the place
+ *    6  a record's key header is not well formed, or its SeekKey is not its place
+ *   15  a string is longer than 254 bytes
+ *   16  the key header would not be well formed, or a value does not fit its field
+ *   17  SeekKey + Nbytes lies beyond the buffer
+ *   18  a date field is not in its range
+ *
+ * What the caller owes: no pointer is null, not even one of length 0; each points to as many
+ * items as is said, aligned for their type; and memory that a function writes overlaps nothing
+ * else that the call is given. Nothing is kept after a call, and nothing is allocated.
+ */
+#ifndef ROOTMAP_H
+#define ROOTMAP_H
+
+#include <stddef.h>
+#include <stdint.h>
+
+#ifdef __cplusplus
+extern "C" {
+#endif
+
+/*
+ * Packs a date: year 1995 to 2058, month 0 to 15, day and hour 0 to 31, minute and second 0 to 63.
+ * Success: place 0, count the packed 32 bits. A field out of its range: 18, place 0, count 0.
+ */
+uint64_t rootmap_pack_date(uint32_t year, uint32_t month, uint32_t day, uint32_t hour, uint32_t minute,
+                           uint32_t second, uint64_t *place, uint64_t *count);
+
+/*
+ * Unpacks any 32 bits into year, month, day, hour, minute and second. Packing these gives the same
+ * 32 bits again.
+ */
+void rootmap_unpack_date(uint32_t packed, uint32_t fields[6]);
+
+/*
+ * Reads the piece at offset `at` of a whole file. Every `at` is taken.
+ *
+ * A record: 0, place 0, count its size, and fields holds
+ *    0  1
+ *    1  Nbytes     2  Version    3  ObjLen     4  Datime     5  KeyLen
+ *    6  Cycle, as its 16 stored bits (0 to 65535)
+ *    7  SeekKey    8  SeekPdir
+ *    9  class start   10  class length
+ *   11  name start    12  name length
+ *   13  title start   14  title length
+ * where a start is the offset in the file of the string's first byte, after its length byte.
+ *
+ * A gap: 0, place 0, count its size, and fields holds 2, the size, and thirteen zeros.
+ *
+ * Refused: 5 or 6, place `at`, count 0, and fields holds fifteen zeros.
+ */
+uint64_t rootmap_read_piece(const uint8_t *file, size_t file_len, uint64_t at, uint64_t fields[15],
+                            uint64_t *place, uint64_t *count);
+
+/*
+ * Writes a plain key header into buf at seek_key. KeyLen is 26 plus the three strings, each with
+ * its length byte.
+ *
+ * Success: 0, place 0, count KeyLen, and exactly the KeyLen bytes of buf from seek_key are written.
+ * Refused: 15, 16 or 17, the first that applies, place 0, count 0, and buf is as it was. 17 asks
+ * room for the whole record, seek_key + nbytes; a record that ends where buf ends fits.
+ */
+uint64_t rootmap_write_key(uint32_t nbytes, uint32_t version, uint32_t objlen, uint32_t datime, int32_t cycle,
+                           uint64_t seek_key, uint64_t seek_pdir, const uint8_t *class_name, size_t class_len,
+                           const uint8_t *name, size_t name_len, const uint8_t *title, size_t title_len,
+                           uint8_t *buf, size_t buf_len, uint64_t *place, uint64_t *count);
+
+#ifdef __cplusplus
+}
+#endif
+
+#endif
