@@ -1,10 +1,11 @@
 -- A list of comparisons: the test holds exactly where the facts do.
+use Prim.Native.Nat.{ℕ, _≤_, _<_}
 use mathlib.Core.List.{List, [], _∷_}
 use mathlib.Core.Bool.{Bool, true, false, _&&_}
 use mathlib.Core.Path.{_≡_, refl, sym, subst, _∙_}
 use mathlib.Core.Logic.{_⊎_, inl, inr}
-use lib.Dec.{T}
-use borrow.Author.Tests.{leb-true, ltb-true, eqb-true, le-leb, lt-ltb, eq-eqb}
+use lib.Dec.{T, ltb}
+use borrow.Author.Tests.{leb-true, ltb-true, ltb-false, eqb-true, le-leb, lt-ltb, eq-eqb}
 use Rattle.key.specs.Check.{Check, le, lt, eq, passes, Holds, all, All, pick}
 
 passed : (c : Check) → Holds c → passes c ≡ true
@@ -54,3 +55,11 @@ picked cs a b h = rw (yes-all cs h)
 
 pub not-picked : {A : Type 0} (cs : List Check) (a b : A) → (All cs → ⊥) → pick (all cs) a b ≡ b
 not-picked cs a b h = rw (not-all cs h)
+
+-- a number is below another or not
+pub below-or : (a b : ℕ) → (a < b) ⊎ (b ≤ a)
+below-or a b = go (ltb a b) refl
+  where
+    go : (c : Bool) → ltb a b ≡ c → (a < b) ⊎ (b ≤ a)
+    go true e = inl (ltb-true a b e)
+    go false e = inr (ltb-false a b e)

@@ -4,6 +4,8 @@ pub mod Headers
 pub mod Numbers
 pub mod Patches
 pub mod Pieces
+pub mod RoundTrips
 pub mod Signs
 pub mod Texts
+pub mod WriteAgain
 pub mod Writes

@@ -2,6 +2,7 @@
 use Prim.Native.Nat.{ℕ, suc, _+_, _≤_, _<_, _-_}
 use mathlib.Core.List.{List}
 use mathlib.Core.Bool.{Bool, true, false}
+use mathlib.Core.Logic.{⊎-elim}
 use mathlib.Core.Path.{_≡_, refl, sym, ap, _∙_}
 use native.Mathlib.Omega.{arith}
 use borrow.Author.Tests.{lt-ltb, le-ltb}
@@ -16,7 +17,7 @@ use Rattle.key.specs.declared.header.Header.{Header}
 use Rattle.key.specs.declared.header.Header.the-variants.{Good, Bad}
 use Rattle.key.specs.declared.piece.Piece.{Piece}
 use Rattle.key.specs.declared.piece.Piece.the-variants.{Record, Gap, Refused}
-use Rattle.key.proofs.Checks.{yes-all, not-all, all-yes}
+use Rattle.key.proofs.Checks.{yes-all, not-all, all-or, below-or}
 use Rattle.key.proofs.Headers.{from-good, from-bad}
 
 module _ (s : List ℕ) (p : ℕ) where
@@ -80,3 +81,42 @@ module _ (s : List ℕ) (p : ℕ) where
         let b = is-record low in
         let c = yes-all (recordFits s p) f in
         (rw (a, b, c) (ap Record (g .0)), rw (a, b, c) (ap done (count (g .0))))
+
+  -- what a record at p says of the file
+  pub record Recorded (k : Key) : Type 0 where
+    pub is : k ≡ keyAt s p
+    pub sized-there : All (sized s p)
+    pub size : sizeAt s p ≡ k .nbytes
+    pub fits : All (recordFits s p)
+
+  record-cases : {k : Key} (b : Bool) → recordThere s p ≡ b
+      → pick b (pick (all (recordFits s p)) (Record (keyAt s p)) (Refused 6 p)) (Gap (sizeAt s p)) ≡ Record k
+      → (recordThere s p ≡ true) × (k ≡ keyAt s p) × All (recordFits s p)
+  record-cases {k} true e h =
+      ⊎-elim (λ (f : All (recordFits s p)). let g = rw (yes-all (recordFits s p) f) at h in (e, cc, f))
+      (λ (f : All (recordFits s p) → ⊥).
+      let g = rw (not-all (recordFits s p) f) at h in
+      let z : _≡_ {A = ℕ} 0 1 = cc in
+      absurd (omega arith))
+      (all-or (recordFits s p))
+  record-cases {k} false e h = let z : _≡_ {A = ℕ} 0 1 = cc in absurd (omega arith)
+
+  -- a number that gives a record gives its size
+  plus-size : recordThere s p ≡ true → sizeAt s p ≡ numAt 4 s p
+  plus-size e =
+      ⊎-elim (λ (l : numAt 4 s p < 2147483648). size-plus l)
+      (λ (l : 2147483648 ≤ numAt 4 s p). let g = sym e ∙ is-gap l in let z : _≡_ {A = ℕ} 0 1 = cc in absurd (omega arith))
+      (below-or (numAt 4 s p) 2147483648)
+
+  pub from-record : {k : Key} → pieceAt s p ≡ Record k → Recorded k
+  unfolding pieceAt keyAt
+  from-record {k} e =
+      ⊎-elim
+      (λ (h : All (sized s p)).
+      let f = record-cases (recordThere s p) refl (rw (yes-all (sized s p) h) at e) in
+      record { is = f .1; sized-there = h; size = plus-size (f .0) ∙ sym (ap (λ (k : Key). k .nbytes) (f .1)); fits = f .2 })
+      (λ (h : All (sized s p) → ⊥).
+      let f = rw (not-all (sized s p) h) at e in
+      let z : _≡_ {A = ℕ} 0 1 = cc in
+      absurd (omega arith))
+      (all-or (sized s p))

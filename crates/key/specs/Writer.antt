@@ -65,8 +65,20 @@ keyOf f class name title = record {
   seekkey = f .seekkey;
   seekpdir = f .seekpdir;
   class = textOf (f .seekkey + 26) class;
-  name = textOf (f .seekkey + 27 + length class) name;
-  title = textOf (f .seekkey + 28 + length class + length name) title;
+  name = textOf (f .seekkey + 26 + 1 + length class) name;
+  title = textOf (f .seekkey + 26 + 1 + length class + 1 + length name) title;
+}
+
+-- the fields of a key that was read, to be written again
+abbrev pub fieldsOf : Key → Fields
+fieldsOf k = record {
+  nbytes = k .nbytes;
+  version = k .version;
+  objlen = k .objlen;
+  datime = k .datime;
+  cycle = k .cycle;
+  seekkey = k .seekkey;
+  seekpdir = k .seekpdir;
 }
 
 -- 15 name: a string over 254
