@@ -3,11 +3,11 @@ use Prim.Native.Nat.{ℕ}
 use mathlib.Core.List.{List}
 use mathlib.Core.Path.{_≡_, sym, ap, _∙_}
 use lib.IntN.{ℤ}
-use Rattle.key.specs.Number.{bits16}
+use Rattle.wire.specs.Number.{bits16}
 use Rattle.key.specs.Piece.{pieceAt, answerOf, pieceAnswer}
 use Rattle.key.specs.Writer.{writeAnswer, writeBuffer}
-use Rattle.key.specs.declared.Answer.{Answer}
-use Rattle.key.specs.declared.number.Bits.{Bits}
+use Rattle.wire.specs.declared.Answer.{Answer}
+use Rattle.wire.specs.declared.number.Bits.{Bits}
 use Rattle.key.specs.declared.piece.Piece.{Piece}
 use Rattle.capi.specs.Told.{Told, pieceList, heldBits, storedCycle, fieldsOf}
 

@@ -4,12 +4,12 @@ use mathlib.Core.List.{List, [], _∷_}
 use mathlib.Core.Path.{_≡_}
 use lib.ListN.{replicate}
 use lib.IntN.{ℤ}
-use Rattle.key.specs.Number.{bits16}
-use Rattle.key.specs.declared.Answer.{Answer}
-use Rattle.key.specs.declared.date.Date.{Date}
+use Rattle.wire.specs.Number.{bits16}
+use Rattle.wire.specs.declared.Answer.{Answer}
+use Rattle.wire.specs.declared.date.Date.{Date}
 use Rattle.key.specs.declared.header.Key.{Key}
-use Rattle.key.specs.declared.number.Bits.{Bits}
-use Rattle.key.specs.declared.number.Bits.the-variants.{Held, Wide}
+use Rattle.wire.specs.declared.number.Bits.{Bits}
+use Rattle.wire.specs.declared.number.Bits.the-variants.{Held, Wide}
 use Rattle.key.specs.declared.piece.Piece.{Piece}
 use Rattle.key.specs.declared.piece.Piece.the-variants.{Record, Gap, Refused}
 use Rattle.key.specs.declared.writer.Fields.{Fields}

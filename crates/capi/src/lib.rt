@@ -1,15 +1,15 @@
 // The C interface: thin functions over the proved crates, with the same promises. A slice is passed as a
 // pointer and a length. The number is returned; place and count are written in every case.
 ghost use mathlib.Core.Path.{_≡_};
-ghost use Rattle.key.specs.Date.{packAnswer, unpacked};
+ghost use Rattle.wire.specs.Date.{packAnswer, unpacked};
 ghost use Rattle.key.specs.Piece.{pieceAt, pieceAnswer};
 ghost use Rattle.key.specs.Writer.{writeAnswer, writeBuffer};
 ghost use Rattle.capi.specs.Told.{Told, dateList, pieceList, recordList, dateOf, fieldsOf, storedCycle};
-use key::date::Date;
 use key::header::Key;
-use key::number::Bits;
 use key::piece::Piece;
 use key::writer::Fields;
+use wire::date::Date;
+use wire::number::Bits;
 
 // Packs a date: 0 and the packed value as count, or 18.
 #[no_mangle]
@@ -25,7 +25,7 @@ pub extern "C" fn rootmap_pack_date(
 ) -> u64
     ensures { λ r. ⌜ Told (packAnswer (dateOf year month day hour minute second)) r (now (place .exit)) (now (count .exit)) ⌝ }
 {
-    let a = key::date::pack_date(Date {
+    let a = wire::date::pack_date(Date {
         year,
         month,
         day,
@@ -43,7 +43,7 @@ pub extern "C" fn rootmap_pack_date(
 pub extern "C" fn rootmap_unpack_date(packed: u32, fields: &mut [u32; 6])
     ensures { λ _. ⌜ now (fields .exit) ≡ dateList (unpacked packed) ⌝ }
 {
-    let d = key::date::unpack_date(packed);
+    let d = wire::date::unpack_date(packed);
     *fields = [d.year, d.month, d.day, d.hour, d.minute, d.second];
 }
 
@@ -51,7 +51,7 @@ pub extern "C" fn rootmap_unpack_date(packed: u32, fields: &mut [u32; 6])
 fn stored_cycle(z: i32) -> u64
     ensures { λ r. ⌜ r ≡ storedCycle z ⌝ }
 {
-    match key::number::bits_of(z) {
+    match wire::number::bits_of(z) {
         Bits::Held(n) => n as u64,
         Bits::Wide => 0,
     }
@@ -152,8 +152,8 @@ pub extern "C" fn rootmap_write_key(
         seekkey: seek_key,
         seekpdir: seek_pdir,
     };
-    let a = key::writer::write_key(f, class_name, name, title, buf);
-    *place = a.place;
-    *count = a.count;
-    a.number
+    let w = key::writer::write_key(f, class_name, name, title, buf);
+    *place = w.place;
+    *count = w.count;
+    w.number
 }

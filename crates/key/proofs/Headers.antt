@@ -1,20 +1,19 @@
 -- Key headers: what the reader answers, from facts.
 use Prim.Native.Nat.{ℕ, _+_, _<_, _≤_}
-use mathlib.Core.List.{List, [], _∷_}
+use mathlib.Core.List.{List}
 use mathlib.Core.Logic.{⊎-elim}
-use mathlib.Core.Path.{_≡_, refl, sym, ap, _∙_}
+use mathlib.Core.Path.{_≡_, sym, ap, _∙_}
 use native.Mathlib.Omega.{arith}
 use lib.ListN.{length}
-use Rattle.key.specs.Check.{All}
-use Rattle.key.specs.Text.{textAt}
+use Rattle.wire.specs.Check.{All}
+use Rattle.wire.specs.Text.{textAt}
 use Rattle.key.specs.Header.{keyAt, namesAt, namesIn, sumOf, headerFits, headerIn}
 use Rattle.key.specs.declared.header.Key.{Key}
 use Rattle.key.specs.declared.header.Names.{Names}
 use Rattle.key.specs.declared.header.Named.the-variants.{Held, Cut}
-use Rattle.key.specs.declared.header.Header.{Header}
 use Rattle.key.specs.declared.header.Header.the-variants.{Good, Bad}
-use Rattle.key.proofs.Checks.{picked, not-picked, all-or}
-use Rattle.key.proofs.Texts.{from-names, from-no-names}
+use Rattle.wire.proofs.Checks.{picked, not-picked, all-or}
+use Rattle.key.proofs.Names.{from-names, from-no-names}
 
 -- the strings end where the sum does
 pub sum-next : (s : List ℕ) (p : ℕ) → keyAt s p .title .next ≡ p + sumOf (keyAt s p)

@@ -1,11 +1,7 @@
-pub mod Checks
-pub mod Dates
+pub mod Copies
 pub mod Headers
-pub mod Numbers
-pub mod Patches
+pub mod Names
 pub mod Pieces
 pub mod RoundTrips
-pub mod Signs
-pub mod Texts
 pub mod WriteAgain
 pub mod Writes

@@ -1,23 +1,21 @@
 -- Pieces: which answer a place gets, from facts, and what an answer says of the file.
-use Prim.Native.Nat.{ℕ, suc, _+_, _≤_, _<_, _-_}
+use Prim.Native.Nat.{ℕ, _+_, _≤_, _<_, _-_}
 use mathlib.Core.List.{List}
 use mathlib.Core.Bool.{Bool, true, false}
 use mathlib.Core.Logic.{⊎-elim}
 use mathlib.Core.Path.{_≡_, refl, sym, ap, _∙_}
 use native.Mathlib.Omega.{arith}
 use borrow.Author.Tests.{lt-ltb, le-ltb}
-use lib.ListN.{length}
-use Rattle.key.specs.Answer.{done, refusal}
-use Rattle.key.specs.Check.{all, All, pick}
-use Rattle.key.specs.Number.{numAt, signedOf}
-use Rattle.key.specs.Header.{keyAt, headerFits, headerIn}
-use Rattle.key.specs.Piece.{sizeAt, recordThere, sized, recordFits, pieceAt, sizeOf, answerOf, pieceAnswer}
+use Rattle.wire.specs.Answer.{done}
+use Rattle.wire.specs.Check.{all, All, pick}
+use Rattle.wire.specs.Number.{numAt, signedOf}
+use Rattle.key.specs.Header.{keyAt, headerIn}
+use Rattle.key.specs.Piece.{sizeAt, recordThere, sized, recordFits, pieceAt, answerOf, pieceAnswer}
 use Rattle.key.specs.declared.header.Key.{Key}
-use Rattle.key.specs.declared.header.Header.{Header}
 use Rattle.key.specs.declared.header.Header.the-variants.{Good, Bad}
 use Rattle.key.specs.declared.piece.Piece.{Piece}
 use Rattle.key.specs.declared.piece.Piece.the-variants.{Record, Gap, Refused}
-use Rattle.key.proofs.Checks.{yes-all, not-all, all-or, below-or}
+use Rattle.wire.proofs.Checks.{yes-all, not-all, all-or, below-or}
 use Rattle.key.proofs.Headers.{from-good, from-bad}
 
 module _ (s : List ℕ) (p : ℕ) where

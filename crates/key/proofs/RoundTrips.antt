@@ -1,35 +1,32 @@
 -- The key writer and the reader at a place undo each other.
-use Prim.Native.Nat.{ℕ, suc, _+_, _-_, _≤_, _<_, _^_}
-use mathlib.Core.List.{List, [], _∷_, _++_, append-assoc}
+use Prim.Native.Nat.{ℕ, suc, _+_, _-_, _≤_, _<_}
+use mathlib.Core.List.{List, [], _++_, append-assoc}
 use mathlib.Core.Bool.{Bool, true, false}
 use mathlib.Core.Logic.{⊎-elim}
 use mathlib.Core.Path.{_≡_, refl, sym, ap, _∙_}
-use native.Mathlib.Nat.{add-zero, add-assoc}
+use native.Mathlib.Nat.{add-zero}
 use native.Mathlib.Omega.{arith}
-use borrow.Author.Tests.{leb-true, le-leb, lt-ltb, le-ltb}
+use borrow.Author.Tests.{leb-true, lt-ltb, le-ltb}
 use lib.Dec.{leb}
 use lib.IntN.{ℤ, pos, negsuc}
 use lib.Signed.{mag}
 use lib.ListN.{length, take, drop, getD, length-append}
 use lib.Seq.{getD-drop, drop-drop, drop-at, take-at}
-use Rattle.key.specs.Answer.{done, refusal}
-use Rattle.key.specs.Check.{All, all, pick}
-use Rattle.key.specs.Number.{beValue, numAt, beBytes, signedOf, bitsOf}
-use Rattle.key.specs.Patch.{patch}
-use Rattle.key.specs.Text.{textAt, contentOf, textBytes}
-use Rattle.key.specs.Header.{namesAt, keyAt, sumOf, wellFormed, headerFits}
+use Rattle.wire.specs.Answer.{done, refusal}
+use Rattle.wire.specs.Check.{All, pick}
+use Rattle.wire.specs.Number.{beValue, numAt, beBytes, signedOf, bitsOf}
+use Rattle.wire.specs.Patch.{patch}
+use Rattle.wire.specs.Text.{textAt, contentOf, textBytes}
+use Rattle.key.specs.Header.{namesAt, keyAt, headerFits}
 use Rattle.key.specs.Piece.{sized, pieceAt}
 use Rattle.key.specs.Writer.{numberBytes, nameBytes, sumBytes, storedOf, headerBytes, textOf, keyOf, namesShort, valuesFit, keyFits, writeAnswer, writeBuffer}
-use Rattle.key.specs.declared.Answer.{Answer}
-use Rattle.key.specs.declared.text.Text.{Text}
-use Rattle.key.specs.declared.header.Key.{Key}
 use Rattle.key.specs.declared.header.Names.{Names}
 use Rattle.key.specs.declared.piece.Piece.the-variants.{Record}
 use Rattle.key.specs.declared.writer.Fields.{Fields}
-use Rattle.key.proofs.Checks.{yes-all, not-all, all-or}
-use Rattle.key.proofs.Headers.{Same, same, is-good, sum-next}
-use Rattle.key.proofs.Numbers.{num-in, value-bytes, value-patch}
-use Rattle.key.proofs.Patches.{length-patch, drop-patch}
+use Rattle.wire.proofs.Checks.{yes-all, not-all, all-or}
+use Rattle.key.proofs.Headers.{Same, same, is-good}
+use Rattle.wire.proofs.Numbers.{num-in, value-bytes, value-patch}
+use Rattle.wire.proofs.Patches.{length-patch, drop-patch}
 use Rattle.key.proofs.Pieces.{size-plus, record-there}
 use Rattle.key.proofs.Writes.{length-numbers, length-names}
 

@@ -1,29 +1,27 @@
 -- A plain piece that is read and written again gives the same KeyLen bytes.
-use Prim.Native.Nat.{ℕ, suc, _+_, _-_, _≤_, _<_, _^_}
-use mathlib.Core.List.{List, [], _∷_, _++_, append-assoc}
+use Prim.Native.Nat.{ℕ, _+_, _-_, _≤_, _<_, _^_}
+use mathlib.Core.List.{List, _++_}
 use mathlib.Core.Path.{_≡_, refl, sym, ap, _∙_}
 use native.Mathlib.Nat.{add-zero}
 use native.Mathlib.Numerals.{add-one, one-add}
 use native.Mathlib.Omega.{arith}
 use borrow.Author.Tests.{le-leb, lt-ltb, le-ltb}
-use lib.IntN.{pos, negsuc}
 use lib.Signed.{mag}
 use lib.ListN.{length, take, drop, getD, length-drop}
 use lib.Seq.{drop-cons, drop-drop, take-add, length-take-le}
-use Rattle.key.specs.Answer.{done}
-use Rattle.key.specs.Check.{All, all, pick}
-use Rattle.key.specs.Number.{beValue, numAt, beBytes, signedOf, bitsOf}
-use Rattle.key.specs.Patch.{patch}
-use Rattle.key.specs.Text.{textAt, contentOf, textBytes}
+use Rattle.wire.specs.Answer.{done}
+use Rattle.wire.specs.Check.{All}
+use Rattle.wire.specs.Number.{numAt, beBytes, signedOf, bitsOf}
+use Rattle.wire.specs.Patch.{patch}
+use Rattle.wire.specs.Text.{textAt, contentOf, textBytes}
 use Rattle.key.specs.Header.{namesAt, keyAt, sumOf}
 use Rattle.key.specs.Piece.{pieceAt}
 use Rattle.key.specs.Writer.{numberBytes, nameBytes, sumBytes, storedOf, headerBytes, keyOf, fieldsOf, namesShort, valuesFit, keyFits, writeAnswer, writeBuffer}
-use Rattle.key.specs.declared.text.Text.{Text}
 use Rattle.key.specs.declared.header.Key.{Key}
 use Rattle.key.specs.declared.piece.Piece.the-variants.{Record}
-use Rattle.key.proofs.Checks.{yes-all, below-or}
+use Rattle.wire.proofs.Checks.{yes-all, below-or}
 use Rattle.key.proofs.Headers.{sum-next}
-use Rattle.key.proofs.Numbers.{Bytes, num-in, bytes-value, value-below}
+use Rattle.wire.proofs.Numbers.{Bytes, num-in, bytes-value, value-below}
 use Rattle.key.proofs.Pieces.{Recorded, from-record}
 use mathlib.Core.Logic.{⊎-elim}
 

@@ -1,6 +1,6 @@
 -- The key writer: its answer and its buffer, from facts.
-use Prim.Native.Nat.{ℕ, suc, _+_, _-_, _≤_, _<_}
-use mathlib.Core.List.{List, [], _∷_, _++_, append-assoc}
+use Prim.Native.Nat.{ℕ, _+_, _-_, _≤_, _<_}
+use mathlib.Core.List.{List, _++_}
 use mathlib.Core.Logic.{⊎-elim}
 use mathlib.Core.Path.{_≡_, refl, sym, ap, _∙_}
 use native.Mathlib.Omega.{arith}
@@ -10,18 +10,18 @@ use lib.Signed.{mag}
 use lib.Dec.{leb, ltb}
 use mathlib.Core.Bool.{Bool, true, false}
 use lib.IntN.{ℤ}
-use Rattle.key.specs.Answer.{done, refusal}
-use Rattle.key.specs.Check.{all, All, pick}
-use Rattle.key.specs.Number.{beBytes, bitsOf, bits16}
-use Rattle.key.specs.Patch.{patch}
-use Rattle.key.specs.Text.{textBytes}
+use Rattle.wire.specs.Answer.{done, refusal}
+use Rattle.wire.specs.Check.{All, pick}
+use Rattle.wire.specs.Number.{beBytes, bitsOf, bits16}
+use Rattle.wire.specs.Patch.{patch}
+use Rattle.wire.specs.Text.{textBytes}
 use Rattle.key.specs.Writer.{numberBytes, nameBytes, headerBytes, sumBytes, storedOf, keyOf, namesShort, valuesFit, keyFits, fieldsFit, storedIn, writeAnswer, writeBuffer}
-use Rattle.key.specs.declared.Answer.{Answer}
-use Rattle.key.specs.declared.number.Bits.the-variants as bits
+use Rattle.wire.specs.declared.Answer.{Answer}
+use Rattle.wire.specs.declared.number.Bits.the-variants as bits
 use Rattle.key.specs.declared.writer.Fields.{Fields}
 use Rattle.key.specs.declared.writer.Stored.{Stored}
 use Rattle.key.specs.declared.writer.Checked.the-variants.{Good, Bad}
-use Rattle.key.proofs.Checks.{yes-all, not-all, picked, not-picked, all-or}
+use Rattle.wire.proofs.Checks.{yes-all, not-all, picked, not-picked, all-or}
 
 pub length-text : (t : List ℕ) → length (textBytes t) ≡ 1 + length t
 unfolding textBytes

@@ -1,10 +1,10 @@
 -- Key headers: document 01, "Key headers (000)".
-use Prim.Native.Nat.{ℕ, _+_, _*_}
+use Prim.Native.Nat.{ℕ, _+_}
 use mathlib.Core.List.{List, [], _∷_}
 use lib.ListN.{length}
-use Rattle.key.specs.Check.{Check, le, lt, eq, all, pick}
-use Rattle.key.specs.Number.{numAt, signedOf}
-use Rattle.key.specs.Text.{textAt}
+use Rattle.wire.specs.Check.{Check, le, lt, eq, all, pick}
+use Rattle.wire.specs.Number.{numAt, signedOf}
+use Rattle.wire.specs.Text.{textAt}
 use Rattle.key.specs.declared.header.Names.{Names}
 use Rattle.key.specs.declared.header.Named.{Named}
 use Rattle.key.specs.declared.header.Named.the-variants.{Held, Cut}

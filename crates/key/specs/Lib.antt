@@ -1,9 +1,3 @@
-pub mod Answer
-pub mod Check
-pub mod Date
 pub mod Header
-pub mod Number
-pub mod Patch
 pub mod Piece
-pub mod Text
 pub mod Writer

@@ -5,11 +5,11 @@ use mathlib.Core.Bool.{Bool}
 use lib.ListN.{length}
 use lib.IntN.{natAbs}
 use lib.Signed.{nonNeg}
-use Rattle.key.specs.Check.{Check, le, eq, all, pick}
-use Rattle.key.specs.Number.{numAt, signedOf}
+use Rattle.wire.specs.Check.{Check, le, eq, all, pick}
+use Rattle.wire.specs.Number.{numAt, signedOf}
 use Rattle.key.specs.Header.{keyAt, headerFits}
-use Rattle.key.specs.Answer.{done, refusal}
-use Rattle.key.specs.declared.Answer.{Answer}
+use Rattle.wire.specs.Answer.{done, refusal}
+use Rattle.wire.specs.declared.Answer.{Answer}
 use Rattle.key.specs.declared.piece.Piece.{Piece}
 use Rattle.key.specs.declared.piece.Piece.the-variants.{Record, Gap, Refused}
 

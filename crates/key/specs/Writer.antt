@@ -4,14 +4,14 @@ use mathlib.Core.List.{List, [], _∷_, _++_}
 use lib.ListN.{length}
 use lib.Signed.{mag}
 use lib.Dec.{leb, eqb}
-use Rattle.key.specs.Answer.{done, refusal}
-use Rattle.key.specs.Check.{Check, le, lt, all, pick}
-use Rattle.key.specs.Number.{beBytes, bitsOf}
-use Rattle.key.specs.Text.{textBytes}
-use Rattle.key.specs.Header.{sumOf, wellFormed}
-use Rattle.key.specs.Patch.{patch}
-use Rattle.key.specs.declared.Answer.{Answer}
-use Rattle.key.specs.declared.text.Text.{Text}
+use Rattle.wire.specs.Answer.{done, refusal}
+use Rattle.wire.specs.Check.{Check, le, lt, all, pick}
+use Rattle.wire.specs.Number.{beBytes, bitsOf}
+use Rattle.wire.specs.Text.{textBytes}
+use Rattle.key.specs.Header.{wellFormed}
+use Rattle.wire.specs.Patch.{patch}
+use Rattle.wire.specs.declared.Answer.{Answer}
+use Rattle.wire.specs.declared.text.Text.{Text}
 use Rattle.key.specs.declared.header.Key.{Key}
 use Rattle.key.specs.declared.writer.Fields.{Fields}
 use Rattle.key.specs.declared.writer.Stored.{Stored}

@@ -1,12 +1,12 @@
 // Key headers (document 000).
 ghost use mathlib.Core.Path.{_≡_};
 ghost use Rattle.key.specs.Header.{headerIn, namesIn};
-use crate::number::be16;
-use crate::number::be32;
-use crate::number::signed16;
-use crate::text::Found;
-use crate::text::Text;
-use crate::text::read_text;
+use wire::number::be16;
+use wire::number::be32;
+use wire::number::signed16;
+use wire::text::Found;
+use wire::text::Text;
+use wire::text::read_text;
 
 // The fields of a key header, and where its strings stand.
 pub struct Key {
@@ -103,7 +103,7 @@ pub fn read_header(s: &[u8], at: usize, end: usize) -> Header
         objlen,
         datime: be32(s, at + 10),
         keylen,
-        cycle: signed16(be16(s, at + 16)),
+        cycle: signed16(be16(s, at + 16) as u16),
         seekkey: be32(s, at + 18) as u64,
         seekpdir: be32(s, at + 22) as u64,
         class,

@@ -4,7 +4,7 @@ ghost use Rattle.key.specs.Piece.{pieceAt, answerOf, pieceAnswer};
 use crate::header::Header;
 use crate::header::Key;
 use crate::header::read_header;
-use crate::number::be32;
+use wire::number::be32;
 
 pub enum Piece {
     Record(Key),

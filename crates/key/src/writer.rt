@@ -2,17 +2,17 @@
 ghost use mathlib.Core.Path.{_≡_};
 ghost use Prim.Native.Nat.{_+_, _≤_};
 ghost use lib.ListN.{length};
-ghost use Rattle.key.specs.Answer.{refusal};
+ghost use Rattle.wire.specs.Answer.{refusal};
 ghost use mathlib.Core.List.{_++_};
-ghost use Rattle.key.specs.Number.{beBytes};
-ghost use Rattle.key.specs.Patch.{patch};
+ghost use Rattle.wire.specs.Number.{beBytes};
+ghost use Rattle.wire.specs.Patch.{patch};
 ghost use Rattle.key.specs.Writer.{numberBytes, nameBytes, storedIn, writeAnswer, writeBuffer};
-use crate::Answer;
-use crate::number::Bits;
-use crate::number::bits_of;
-use crate::number::put16;
-use crate::number::put32;
-use crate::text::put_text;
+use crate::store::put_text;
+use crate::store::put16;
+use crate::store::put32;
+use wire::Answer;
+use wire::number::Bits;
+use wire::number::bits_of;
 
 // The fields of a key header but KeyLen, which the writer works out.
 pub struct Fields {

@@ -2,9 +2,9 @@ use native.Mathlib.Omega.{arith}
 use denote.Ref.{now}
 use mathlib.Core.Path.{_∙_, sym, ap}
 use Rattle.key.specs.Header.{keyAt}
-use Rattle.key.specs.Number.{signedOf}
+use Rattle.wire.specs.Number.{signedOf}
 use Rattle.key.specs.declared.header.Names.{Names}
-use Rattle.key.proofs.Signs.{signed-held}
+use Rattle.wire.proofs.Signs.{signed-held}
 use Rattle.key.proofs.Headers.{is-bad, is-good, strings, no-strings, sum-next}
 use borrow.Author.Needs.{needs}
 use Rattle.key.proofs.header.read_header.Statement.{statement}
@@ -97,6 +97,9 @@ add-be16-3 c = search needs
 be16-requires-3 : tie.Need-be16-requires-3
 be16-requires-3 c κs = search needs
 
+cast-signed16 : tie.Need-cast-signed16
+cast-signed16 c = search needs
+
 signed16-requires : tie.Need-signed16-requires
 signed16-requires c κs = search needs
 
@@ -106,8 +109,8 @@ add-be32-3 c = search needs
 be32-requires-4 : tie.Need-be32-requires-4
 be32-requires-4 c κs = search needs
 
-cast-t22 : tie.Need-cast-t22
-cast-t22 c = search needs
+cast-t23 : tie.Need-cast-t23
+cast-t23 c = search needs
 
 add-be32-4 : tie.Need-add-be32-4
 add-be32-4 c = omega (arith, c .before .before .before .before .before .before .before .before .before .before .before .before .before .before .before .before .before .before .before .before .before)
@@ -115,8 +118,8 @@ add-be32-4 c = omega (arith, c .before .before .before .before .before .before .
 be32-requires-5 : tie.Need-be32-requires-5
 be32-requires-5 c κs = search needs
 
-cast-t25 : tie.Need-cast-t25
-cast-t25 c = search needs
+cast-t26 : tie.Need-cast-t26
+cast-t26 c = search needs
 
 returns-10 : tie.Need-returns-10
 unfolding keyAt
@@ -167,11 +170,12 @@ read-header-spec =
     be32-requires-3
     add-be16-3
     be16-requires-3
+    cast-signed16
     signed16-requires
     add-be32-3
     be32-requires-4
-    cast-t22
+    cast-t23
     add-be32-4
     be32-requires-5
-    cast-t25
+    cast-t26
     returns-10)

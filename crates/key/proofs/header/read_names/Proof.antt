@@ -1,5 +1,5 @@
 use mathlib.Core.Path.{_∙_, sym}
-use Rattle.key.proofs.Texts.{no-class, no-name, no-title, all-names}
+use Rattle.key.proofs.Names.{no-class, no-name, no-title, all-names}
 use borrow.Author.Needs.{needs}
 use Rattle.key.proofs.header.read_names.Statement.{statement}
 use Rattle.key.proofs.header.read_names.Tie as tie

@@ -1,7 +1,7 @@
 use native.Mathlib.Omega.{arith}
 use denote.Ref.{now}
 use Rattle.key.specs.Writer.{numberBytes, nameBytes}
-use Rattle.key.proofs.Patches.{part-then}
+use Rattle.wire.proofs.Patches.{part-then}
 use Rattle.key.proofs.Writes.{length-numbers, length-names}
 use borrow.Author.Needs.{needs}
 use Rattle.key.proofs.writer.put_header.Statement.{statement}

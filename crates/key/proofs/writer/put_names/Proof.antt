@@ -2,9 +2,9 @@ use native.Mathlib.Omega.{arith}
 use denote.Ref.{now}
 use mathlib.Core.List.{_++_}
 use lib.ListN.{length-append}
-use Rattle.key.specs.Text.{textBytes}
+use Rattle.wire.specs.Text.{textBytes}
 use Rattle.key.specs.Writer.{nameBytes}
-use Rattle.key.proofs.Patches.{part-then}
+use Rattle.wire.proofs.Patches.{part-then}
 use borrow.Author.Needs.{needs}
 use Rattle.key.proofs.writer.put_names.Statement.{statement}
 use Rattle.key.proofs.writer.put_names.Tie as tie

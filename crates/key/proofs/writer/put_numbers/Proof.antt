@@ -1,9 +1,9 @@
 use native.Mathlib.Omega.{arith}
 use denote.Ref.{now}
 use mathlib.Core.List.{_++_}
-use Rattle.key.specs.Number.{beBytes}
+use Rattle.wire.specs.Number.{beBytes}
 use Rattle.key.specs.Writer.{numberBytes}
-use Rattle.key.proofs.Patches.{part-then}
+use Rattle.wire.proofs.Patches.{part-then}
 use borrow.Author.Needs.{needs}
 use Rattle.key.proofs.writer.put_numbers.Statement.{statement}
 use Rattle.key.proofs.writer.put_numbers.Tie as tie

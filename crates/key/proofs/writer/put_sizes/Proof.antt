@@ -1,8 +1,8 @@
 use native.Mathlib.Omega.{arith}
 use denote.Ref.{now}
 use mathlib.Core.List.{_++_}
-use Rattle.key.specs.Number.{beBytes}
-use Rattle.key.proofs.Patches.{part-then}
+use Rattle.wire.specs.Number.{beBytes}
+use Rattle.wire.proofs.Patches.{part-then}
 use borrow.Author.Needs.{needs}
 use Rattle.key.proofs.writer.put_sizes.Statement.{statement}
 use Rattle.key.proofs.writer.put_sizes.Tie as tie

@@ -4,7 +4,7 @@ use lib.ListN.{length-append}
 use mathlib.Core.Path.{_∙_, sym, refl}
 use mathlib.Core.List.{_++_}
 use Rattle.key.specs.Writer.{numberBytes, nameBytes}
-use Rattle.key.proofs.Patches.{patch-part}
+use Rattle.wire.proofs.Patches.{patch-part}
 use Rattle.key.proofs.Writes.{length-numbers, length-names, long-name, bad-field, no-room, header-fits, wrote}
 use borrow.Author.Needs.{needs}
 use Rattle.key.proofs.writer.write_key.Statement.{statement}

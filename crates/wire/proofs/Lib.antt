@@ -1,0 +1,6 @@
+pub mod Checks
+pub mod Dates
+pub mod Numbers
+pub mod Patches
+pub mod Signs
+pub mod Texts

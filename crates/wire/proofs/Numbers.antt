@@ -1,0 +1,82 @@
+-- Laws of big-endian numbers, over the width.
+use Prim.Native.Nat.{ℕ, zero, suc, _+_, _-_, _*_, _/_, _%_, _^_, _<_, _≤_}
+use mathlib.Core.List.{List, _∷_, _++_}
+use mathlib.Core.Path.{_≡_, refl, _∙_}
+use native.Mathlib.Nat.{add-zero, zero-add, add-assoc, div-add-mod', div-lt-iff-lt-mul, pow-suc}
+use native.Mathlib.Numerals.{add-one}
+use native.Mathlib.Omega.{arith}
+use borrow.Author.Tests.{le-leb, lt-leb}
+use lib.ListN.{length, take, drop, getD, length-append, length-drop}
+use lib.Seq.{sets, sets-eq, getD-append-add, getD-drop, take-suc}
+use mathlib.Core.List.{append-assoc}
+use Rattle.wire.specs.Number.{beValue, numAt, beBytes}
+use Rattle.wire.specs.Patch.{patch}
+use Rattle.wire.proofs.Patches.{patch-at}
+
+-- the number is there, or not
+pub num-in : (w : ℕ) (s : List ℕ) (p : ℕ) → p + w ≤ length s → numAt w s p ≡ beValue w s p
+unfolding numAt
+num-in w s p h = rw (le-leb (p + w) (length s) h)
+
+pub num-out : (w : ℕ) (s : List ℕ) (p : ℕ) → length s < p + w → numAt w s p ≡ 0
+unfolding numAt
+num-out w s p h = rw (lt-leb (p + w) (length s) h)
+
+pub length-bytes : (w v : ℕ) → length (beBytes w v) ≡ w
+unfolding beBytes
+length-bytes zero v = refl
+length-bytes (suc w) v = rw (length-append, length-bytes w (v / 256)) (add-one w)
+
+-- two and four bytes, as the code adds them up
+pub value2 : (s : List ℕ) (p : ℕ) → beValue 2 s p ≡ getD s p 0 * 256 + getD s (p + 1) 0
+unfolding beValue
+value2 s p = rw add-zero (omega arith)
+
+pub value4 : (s : List ℕ) (p : ℕ)
+    → beValue 4 s p ≡ getD s p 0 * 16777216 + getD s (p + 1) 0 * 65536 + getD s (p + 2) 0 * 256 + getD s (p + 3) 0
+unfolding beValue
+value4 s p = rw add-zero (omega arith)
+
+-- bytes stored one after the other at the front
+pub stored : (x b : List ℕ) → length x ≤ length b → sets b 0 x ≡ patch b 0 x
+unfolding patch
+stored x b l = sets-eq x b 0 (omega arith) ∙ simp append-assoc
+
+-- the bytes of a number give its value
+pub value-bytes : (w v : ℕ) (t : List ℕ) → v < 256 ^ w → beValue w (beBytes w v ++ t) 0 ≡ v
+unfolding beValue beBytes
+value-bytes zero v t h = omega arith
+value-bytes (suc w) v t h =
+    let l : v / 256 < 256 ^ w = div-lt-iff-lt-mul {k = 256} {x = v} {y = 256 ^ w} (omega arith) .1 (rw (pow-suc 256 w) at h) in
+    let a = value-bytes w (v / 256) (v % 256 ∷ t) l in
+    let b = getD-append-add (beBytes w (v / 256)) (v % 256 ∷ t) 0 0 in
+    let c : getD (beBytes w (v / 256) ++ (v % 256 ∷ t)) (0 + w) 0 ≡ v % 256 = rw (zero-add w) (rw (length-bytes w (v / 256), add-zero w) at b) in
+    rw (append-assoc, a, c) (div-add-mod' v 256)
+
+-- a value depends on its own bytes alone
+pub value-patch : (w : ℕ) (b : List ℕ) (at : ℕ) (x : List ℕ) → at + length x ≤ length b → (i : ℕ) → i + w ≤ length x
+    → beValue w (patch b at x) (at + i) ≡ beValue w x i
+unfolding beValue
+value-patch zero b at x l i h = refl
+value-patch (suc w) b at x l i h =
+    rw (value-patch w b at x l i (omega arith), add-assoc at i w, patch-at b at x l (i + w) (omega arith))
+
+-- every element is a byte
+pub Bytes : List ℕ → Type 0
+Bytes s = (i : ℕ) → getD s i 0 < 256
+
+-- the value of bytes gives the bytes
+pub bytes-value : (w : ℕ) (s : List ℕ) (p : ℕ) → Bytes s → p + w ≤ length s → beBytes w (beValue w s p) ≡ take w (drop p s)
+unfolding beValue beBytes Bytes
+bytes-value zero s p b l = refl
+bytes-value (suc w) s p b l =
+    let g = b (p + w) in
+    let q : (beValue w s p * 256 + getD s (p + w) 0) / 256 ≡ beValue w s p = omega arith in
+    let r : (beValue w s p * 256 + getD s (p + w) 0) % 256 ≡ getD s (p + w) 0 = omega arith in
+    rw (q, r, bytes-value w s p b (omega arith), take-suc (drop p s) w 0 (rw length-drop (omega arith)), getD-drop)
+
+-- a value of w bytes is below 256 to the w
+pub value-below : (w : ℕ) (s : List ℕ) (p : ℕ) → Bytes s → beValue w s p < 256 ^ w
+unfolding beValue Bytes
+value-below zero s p b = omega arith
+value-below (suc w) s p b = let l = value-below w s p b in let g = b (p + w) in rw (pow-suc 256 w) (omega arith)

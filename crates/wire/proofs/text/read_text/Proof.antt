@@ -1,0 +1,60 @@
+use native.Mathlib.Omega.{arith}
+use Rattle.wire.specs.Text.{textAt}
+use Rattle.wire.proofs.Texts.{is-cut, is-held}
+use borrow.Author.Needs.{needs}
+use Rattle.wire.proofs.text.read_text.Statement.{statement}
+use Rattle.wire.proofs.text.read_text.Tie as tie
+
+returns : tie.Need-returns
+unfolding textAt
+returns c = is-cut _ _ _ (λ h. omega (arith, h))
+
+returns-2 : tie.Need-returns-2
+unfolding textAt
+returns-2 c = is-cut _ _ _ (λ h. omega (arith, h))
+
+shared-slice-read-len : tie.Need-shared-slice-read-len
+shared-slice-read-len c = search needs
+
+cast-len : tie.Need-cast-len
+cast-len c = omega (arith, c .shared-slice-known .given (c .before .before .before .args .at))
+
+returns-3 : tie.Need-returns-3
+unfolding textAt
+returns-3 c = is-cut _ _ _ (λ h. omega (arith, h))
+
+sub-if4 : tie.Need-sub-if4
+sub-if4 c = search needs
+
+returns-4 : tie.Need-returns-4
+unfolding textAt
+returns-4 c = is-cut _ _ _ (λ h. omega (arith, h))
+
+add-t5 : tie.Need-add-t5
+add-t5 c = search needs
+
+add-t9 : tie.Need-add-t9
+add-t9 c = search needs
+
+add-t10 : tie.Need-add-t10
+add-t10 c = search needs
+
+returns-5 : tie.Need-returns-5
+unfolding textAt
+returns-5 c = is-held _ _ _ (omega (arith, c .before .before .shared-slice-known .given (c .before .before .before .before .before .args .at)))
+
+pub read-text-spec : {M : Type 1} → statement M
+read-text-spec =
+    tie.close
+    (tie.spec
+    returns
+    returns-2
+    shared-slice-read-len
+    cast-len
+    returns-3
+    sub-if4
+    returns-4
+    add-t5
+    add-t9
+    add-t10
+    returns-5)

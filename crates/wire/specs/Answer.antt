@@ -1,0 +1,11 @@
+-- Answers: document 01, "Numbers given back". The answer holds number, place, count.
+use Prim.Native.Nat.{ℕ}
+use Rattle.wire.specs.declared.Answer.{Answer}
+
+-- a success is 0, 0 and a count
+abbrev pub done : ℕ → Answer
+done n = record { number = 0; place = 0; count = n }
+
+-- a refusal is its number and place, with count 0
+abbrev pub refusal : ℕ → ℕ → Answer
+refusal c p = record { number = c; place = p; count = 0 }

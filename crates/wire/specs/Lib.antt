@@ -1,0 +1,6 @@
+pub mod Answer
+pub mod Check
+pub mod Date
+pub mod Number
+pub mod Patch
+pub mod Text

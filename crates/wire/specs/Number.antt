@@ -1,0 +1,37 @@
+-- Big-endian numbers, over their width in bytes.
+use Prim.Native.Nat.{ℕ, zero, suc, _+_, _-_, _*_, _/_, _%_, _^_}
+use mathlib.Core.List.{List, [], _∷_, _++_}
+use lib.ListN.{length, getD}
+use lib.IntN.{ℤ, pos, negsuc}
+use lib.Signed.{mag}
+use lib.Dec.{leb, ltb}
+use Rattle.wire.specs.Check.{pick}
+use Rattle.wire.specs.declared.number.Bits.{Bits}
+use Rattle.wire.specs.declared.number.Bits.the-variants.{Held, Wide}
+
+-- the value of w bytes from p on
+unfoldable pub beValue : ℕ → List ℕ → ℕ → ℕ
+beValue zero s p = 0
+beValue (suc w) s p = beValue w s p * 256 + getD s (p + w) 0
+
+-- the number of w bytes at p; 0 unless all of them are there
+unfoldable pub numAt : ℕ → List ℕ → ℕ → ℕ
+numAt w s p = pick (leb (p + w) (length s)) (beValue w s p) 0
+
+-- the w bytes of a number
+unfoldable pub beBytes : ℕ → ℕ → List ℕ
+beBytes zero v = []
+beBytes (suc w) v = beBytes w (v / 256) ++ (v % 256 ∷ [])
+
+-- the signed value of the w bytes whose unsigned value is v: two's complement
+unfoldable pub signedOf : ℕ → ℕ → ℤ
+signedOf w v = pick (ltb (v + v) (256 ^ w)) (pos v) (negsuc (256 ^ w - suc v))
+
+-- the unsigned value of a signed number's w bytes
+unfoldable pub bitsOf : ℕ → ℤ → ℕ
+bitsOf w (pos n) = n
+bitsOf w (negsuc n) = 256 ^ w - suc n
+
+-- the 16 bits of a signed number, where they hold it: -32768 to 32767
+unfoldable pub bits16 : ℤ → Bits
+bits16 z = pick (ltb (mag z) 32768) (Held (bitsOf 2 z)) Wide

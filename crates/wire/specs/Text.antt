@@ -1,0 +1,28 @@
+-- Counted strings: document 01, "a length byte 0 to 254 and its bytes".
+use Prim.Native.Nat.{ℕ, _+_}
+use mathlib.Core.List.{List, [], _∷_}
+use lib.ListN.{length, getD, take, drop}
+use Rattle.wire.specs.Check.{Check, le, lt, all, pick}
+use Rattle.wire.specs.declared.text.Text.{Text}
+use Rattle.wire.specs.declared.text.Found.{Found}
+use Rattle.wire.specs.declared.text.Found.the-variants.{Held, Cut}
+
+-- the string whose length byte stands at p: its first byte, its length, and the place after it
+unfoldable pub textAt : List ℕ → ℕ → Text
+textAt s p = record { start = p + 1; len = getD s p 0; next = p + 1 + getD s p 0 }
+
+-- no length byte is 255, and the string ends at or before end
+abbrev pub textFits : Text → ℕ → List Check
+textFits t end = lt (t .len) 255 ∷ le (t .next) end ∷ []
+
+-- the string at p, read within the bytes before end
+unfoldable pub textIn : List ℕ → ℕ → ℕ → Found
+textIn s p end = pick (all (le end (length s) ∷ textFits (textAt s p) end)) (Held (textAt s p)) Cut
+
+-- the content of a string
+unfoldable pub contentOf : List ℕ → Text → List ℕ
+contentOf s t = take (t .len) (drop (t .start) s)
+
+-- a string as it is written
+unfoldable pub textBytes : List ℕ → List ℕ
+textBytes t = length t ∷ t

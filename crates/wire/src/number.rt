@@ -1,0 +1,68 @@
+// Big-endian numbers, read at any place, and signed numbers of 16 bits.
+ghost use mathlib.Core.Path.{_≡_};
+ghost use Prim.Native.Nat.{_<_, _≤_};
+ghost use Rattle.wire.specs.Number.{numAt, signedOf, bits16};
+
+fn wide(b: u8) -> u32
+    ensures { λ r. ⌜ (r ≡ b) × (r ≤ 255) ⌝ }
+{
+    b as u32
+}
+
+// The number of 2 bytes at a place; 0 unless both are there.
+pub fn be16(s: &[u8], at: usize) -> u32
+    ensures { λ r. ⌜ (r ≡ numAt 2 (now (s .entry)) at) × (r < 65536) ⌝ }
+{
+    if s.len() < 2 {
+        return 0;
+    }
+    if s.len() - 2 < at {
+        return 0;
+    }
+    wide(s[at]) * 256 + wide(s[at + 1])
+}
+
+// The number of 4 bytes at a place; 0 unless all are there.
+pub fn be32(s: &[u8], at: usize) -> u32
+    ensures { λ r. ⌜ r ≡ numAt 4 (now (s .entry)) at ⌝ }
+{
+    if s.len() < 4 {
+        return 0;
+    }
+    if s.len() - 4 < at {
+        return 0;
+    }
+    wide(s[at]) * 16777216 + wide(s[at + 1]) * 65536 + wide(s[at + 2]) * 256 + wide(s[at + 3])
+}
+
+// The signed value of 16 bits.
+pub fn signed16(raw: u16) -> i32
+    ensures { λ r. ⌜ r ≡ signedOf 2 raw ⌝ }
+{
+    if raw < 32768 {
+        return raw as i32;
+    }
+    raw as i32 - 65536
+}
+
+// A signed number as 16 bits, where they hold it.
+pub enum Bits {
+    Held(u32),
+    Wide,
+}
+
+// The 16 bits of a signed number.
+pub fn bits_of(z: i32) -> Bits
+    ensures { λ r. ⌜ r ≡ bits16 z ⌝ }
+{
+    if z < -32768 {
+        return Bits::Wide;
+    }
+    if 32767 < z {
+        return Bits::Wide;
+    }
+    if z < 0 {
+        return Bits::Held((z + 65536) as u32);
+    }
+    Bits::Held(z as u32)
+}

@@ -1,0 +1,39 @@
+// Counted strings: a length byte 0 to 254 and as many bytes.
+ghost use mathlib.Core.Path.{_≡_};
+ghost use Rattle.wire.specs.Text.{textIn};
+
+// Where a string stands: its first byte, its length, and the place after it.
+pub struct Text {
+    pub start: usize,
+    pub len: usize,
+    pub next: usize,
+}
+
+pub enum Found {
+    Held(Text),
+    Cut,
+}
+
+// The string whose length byte is at a place, if it ends at or before end.
+pub fn read_text(s: &[u8], at: usize, end: usize) -> Found
+    ensures { λ r. ⌜ r ≡ textIn (now (s .entry)) at end ⌝ }
+{
+    if s.len() < end {
+        return Found::Cut;
+    }
+    if end <= at {
+        return Found::Cut;
+    }
+    let len = s[at] as usize;
+    if len == 255 {
+        return Found::Cut;
+    }
+    if end - at <= len {
+        return Found::Cut;
+    }
+    Found::Held(Text {
+        start: at + 1,
+        len,
+        next: at + 1 + len,
+    })
+}
