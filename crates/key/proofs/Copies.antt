@@ -8,7 +8,6 @@ use lib.ListN.{length, take, set, getD}
 use lib.Seq.{take-all, take-suc, length-take-le}
 use Rattle.wire.specs.Patch.{patch}
 use Rattle.wire.specs.Text.{textBytes}
-use Rattle.key.specs.declared.header.Named.the-variants as named
 use Rattle.wire.proofs.Patches.{length-patch, patch-nil, patch-set, set-patch, patch-patch}
 
 -- while a string is written: w is b with the first i bytes of t from 1 on

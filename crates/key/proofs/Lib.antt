@@ -1,6 +1,7 @@
 pub mod Copies
 pub mod Headers
 pub mod Names
+pub mod Others
 pub mod Pieces
 pub mod RoundTrips
 pub mod WriteAgain

@@ -6,17 +6,19 @@ use mathlib.Core.Path.{_≡_, refl, sym, subst, _∙_}
 use mathlib.Core.Logic.{_⊎_, inl, inr}
 use lib.Dec.{T, ltb}
 use borrow.Author.Tests.{leb-true, ltb-true, ltb-false, eqb-true, le-leb, lt-ltb, eq-eqb}
-use Rattle.wire.specs.Check.{Check, le, lt, eq, passes, Holds, all, All, pick}
+use Rattle.wire.specs.Check.{Check, le, lt, eq, yes, passes, Holds, all, All, pick}
 
 passed : (c : Check) → Holds c → passes c ≡ true
 passed (le a b) h = le-leb a b h
 passed (lt a b) h = lt-ltb a b h
 passed (eq a b) h = eq-eqb a b h
+passed (yes b) h = h
 
 held : (c : Check) → passes c ≡ true → Holds c
 held (le a b) e = leb-true a b e
 held (lt a b) e = ltb-true a b e
 held (eq a b) e = eqb-true a b e
+held (yes b) e = e
 
 and-left : (a b : Bool) → (a && b) ≡ true → a ≡ true
 and-left true b e = refl

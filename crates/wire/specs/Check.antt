@@ -1,4 +1,4 @@
--- Lists of comparisons of numbers: as a test that computes, and as the facts that it tests.
+-- Lists of tests, most of them comparisons of numbers: as a test that computes, and as the facts that it tests.
 use Prim.Native.Nat.{ℕ, _≤_, _<_}
 use mathlib.Core.List.{List, [], _∷_}
 use mathlib.Core.Bool.{Bool, true, false, _&&_}
@@ -9,23 +9,26 @@ pub data Check : Type 0 where
   le : ℕ → ℕ → Check
   lt : ℕ → ℕ → Check
   eq : ℕ → ℕ → Check
+  yes : Bool → Check
 
 abbrev pub passes : Check → Bool
 passes (le a b) = leb a b
 passes (lt a b) = ltb a b
 passes (eq a b) = eqb a b
+passes (yes b) = b
 
 abbrev pub Holds : Check → Type 0
 Holds (le a b) = a ≤ b
 Holds (lt a b) = a < b
 Holds (eq a b) = a ≡ b
+Holds (yes b) = b ≡ true
 
--- every comparison of the list holds: the test
+-- every test of the list holds: the test
 abbrev pub all : List Check → Bool
 all [] = true
 all (c ∷ cs) = passes c && all cs
 
--- every comparison of the list holds: the facts
+-- every test of the list holds: the facts
 abbrev pub All : List Check → Type 0
 All [] = Unit
 All (c ∷ cs) = Holds c × All cs

@@ -1,0 +1,42 @@
+-- A piece that was read and is no record, as the `else` of `let Piece::Record(k) = .. else { .. }` knows it: by its variant's number.
+use Prim.Native.Nat.{ℕ, _+_, _≤_}
+use lib.ListN.{length}
+use mathlib.Core.List.{List, [], _∷_}
+use mathlib.Core.Logic.{⊎-elim}
+use mathlib.Core.Path.{_≡_, sym, ap, _∙_}
+use native.Mathlib.Omega.{arith}
+use denote.Enum.Declared.{tagOf}
+use types.Run.{OneOf}
+use Rattle.key.proofs.piece.Piece.{the-type}
+use Rattle.key.proofs.Pieces.{from-record}
+use Rattle.key.specs.Piece.{pieceAt, answerOf, pieceAnswer}
+use Rattle.key.specs.declared.header.Key.{Key}
+use Rattle.key.specs.declared.piece.Piece.{Piece}
+use Rattle.key.specs.declared.piece.Piece.the-variants.{Record, Gap, Refused}
+
+-- a fact of every gap and every refusal is a fact of a piece that is no record
+pub no-record : (P : Piece → Type 0) (r : Piece) → OneOf (1 ∷ 2 ∷ []) (tagOf the-type r) → ((n : ℕ) → P (Gap n))
+    → ((c q : ℕ) → P (Refused c q)) → P r
+no-record P (Record k) h f g = absurd (⊎-elim (λ (e : 0 ≡ 1). omega arith) (λ (e : 0 ≡ 2). omega arith) h)
+no-record P (Gap n) h f g = f n
+no-record P (Refused c q) h f g = g c q
+
+module _ {A : Type 0} (f : Piece → A) (s : List ℕ) (p : ℕ) {r : Piece} (e : (r ≡ pieceAt s p) × (answerOf r ≡ pieceAnswer s p)) where
+  -- what is answered where no record stands at p
+  pub if-other : (b : A) → OneOf (1 ∷ 2 ∷ []) (tagOf the-type r) → ((n : ℕ) → b ≡ f (Gap n)) → ((c q : ℕ) → b ≡ f (Refused c q))
+      → b ≡ f (pieceAt s p)
+  if-other b h g i = no-record (λ (r : Piece). b ≡ f r) r h g i ∙ ap f (e .0)
+
+  -- what is answered for the record k at p
+  pub if-record : {k : Key} {b : A} → r ≡ Record k → b ≡ f (Record k) → b ≡ f (pieceAt s p)
+  if-record i h = h ∙ ap f (sym i ∙ e .0)
+
+-- a record lies in the file, and its key in the record
+pub record-lies : (s : List ℕ) (p : ℕ) {r : Piece} {k : Key} → (r ≡ pieceAt s p) × (answerOf r ≡ pieceAnswer s p) → r ≡ Record k
+    → (p + k .nbytes ≤ length s) × (k .keylen ≤ k .nbytes)
+record-lies s p {r} {k} e i =
+    let h = from-record s p (sym (e .0) ∙ i) in
+    let f = h .fits .1 .1 .1 in
+    let a = ap (λ (k : Key). k .keylen) (h .is) in
+    let b = ap (λ (k : Key). k .nbytes) (h .is) in
+    (omega (arith, h .size, h .sized-there), omega arith)

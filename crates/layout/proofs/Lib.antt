@@ -1,0 +1,5 @@
+pub mod Equal
+pub mod Opens
+pub mod Records
+pub mod Spans
+pub mod Headings

@@ -1,0 +1,4 @@
+pub mod Dir
+pub mod File
+pub mod Keys
+pub mod Name
