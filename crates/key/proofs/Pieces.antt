@@ -10,7 +10,8 @@ use Rattle.wire.specs.Answer.{done}
 use Rattle.wire.specs.Check.{all, All, pick}
 use Rattle.wire.specs.Number.{numAt, signedOf}
 use Rattle.key.specs.Header.{keyAt, headerIn}
-use Rattle.key.specs.Piece.{sizeAt, recordThere, sized, recordFits, pieceAt, answerOf, pieceAnswer}
+use lib.ListN.{length}
+use Rattle.key.specs.Piece.{sizeAt, recordThere, sized, recordFits, pieceAt, answerOf, pieceAnswer, sizeOf}
 use Rattle.key.specs.declared.header.Key.{Key}
 use Rattle.key.specs.declared.header.Header.the-variants.{Good, Bad}
 use Rattle.key.specs.declared.piece.Piece.{Piece}
@@ -118,3 +119,63 @@ module _ (s : List ℕ) (p : ℕ) where
       let z : _≡_ {A = ℕ} 0 1 = cc in
       absurd (omega arith))
       (all-or (sized s p))
+
+  gap-cases : {n : ℕ} (b : Bool) → pick b (pick (all (recordFits s p)) (Record (keyAt s p)) (Refused 6 p)) (Gap (sizeAt s p)) ≡ Gap n
+      → sizeAt s p ≡ n
+  gap-cases {n} true h =
+      ⊎-elim
+      (λ (f : All (recordFits s p)).
+      let g = rw (yes-all (recordFits s p) f) at h in
+      let z : _≡_ {A = ℕ} 0 1 = cc in
+      absurd (omega arith))
+      (λ (f : All (recordFits s p) → ⊥).
+      let g = rw (not-all (recordFits s p) f) at h in
+      let z : _≡_ {A = ℕ} 0 1 = cc in
+      absurd (omega arith))
+      (all-or (recordFits s p))
+  gap-cases {n} false h = cc
+
+  -- what a gap at p says of the file
+  pub from-gap : {n : ℕ} → pieceAt s p ≡ Gap n → (4 ≤ n) × (p + n ≤ length s)
+  unfolding pieceAt
+  from-gap {n} e =
+      ⊎-elim
+      (λ (h : All (sized s p)). let f = gap-cases (recordThere s p) (rw (yes-all (sized s p) h) at e) in omega arith)
+      (λ (h : All (sized s p) → ⊥).
+      let f = rw (not-all (sized s p) h) at e in
+      let z : _≡_ {A = ℕ} 0 1 = cc in
+      absurd (omega arith))
+      (all-or (sized s p))
+
+  stop-cases : {c q : ℕ} (b : Bool)
+      → pick b (pick (all (recordFits s p)) (Record (keyAt s p)) (Refused 6 p)) (Gap (sizeAt s p)) ≡ Refused c q → q ≡ p
+  stop-cases {c} {q} true h =
+      ⊎-elim
+      (λ (f : All (recordFits s p)).
+      let g = rw (yes-all (recordFits s p) f) at h in
+      let z : _≡_ {A = ℕ} 0 1 = cc in
+      absurd (omega arith))
+      (λ (f : All (recordFits s p) → ⊥). let g = rw (not-all (recordFits s p) f) at h in cc)
+      (all-or (recordFits s p))
+  stop-cases {c} {q} false h = let z : _≡_ {A = ℕ} 0 1 = cc in absurd (omega arith)
+
+  -- a refusal at p names p
+  pub from-refused : {c q : ℕ} → pieceAt s p ≡ Refused c q → q ≡ p
+  unfolding pieceAt
+  from-refused {c} {q} e =
+      ⊎-elim (λ (h : All (sized s p)). stop-cases (recordThere s p) (rw (yes-all (sized s p) h) at e))
+      (λ (h : All (sized s p) → ⊥). let f = rw (not-all (sized s p) h) at e in cc)
+      (all-or (sized s p))
+
+  -- a piece that is no refusal has at least 4 bytes and ends in the file
+  lies : (r : Piece) → pieceAt s p ≡ r → 0 < sizeOf r → (4 ≤ sizeOf r) × (p + sizeOf r ≤ length s)
+  lies (Record k) e l = let h = from-record e in omega (arith, h .size, h .sized-there)
+  lies (Gap n) e l = from-gap e
+  lies (Refused c q) e l = absurd (omega arith)
+
+  pub size-fits : 0 < sizeOf (pieceAt s p) → (4 ≤ sizeOf (pieceAt s p)) × (p + sizeOf (pieceAt s p) ≤ length s)
+  size-fits l = lies (pieceAt s p) refl l
+
+  -- a record has at least 4 bytes
+  pub record-sized : {k : Key} → pieceAt s p ≡ Record k → 4 ≤ k .nbytes
+  record-sized e = let h = from-record e in omega (arith, h .size, h .sized-there)
