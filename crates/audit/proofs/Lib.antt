@@ -1,2 +1,3 @@
+pub mod Frees
 pub mod Partitions
 pub mod Searches

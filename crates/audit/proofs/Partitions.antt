@@ -3,15 +3,14 @@ use Prim.Native.Nat.{ℕ, zero, suc, _+_, _≤_, _<_}
 use mathlib.Core.List.{List, [], _∷_, _++_, append-assoc}
 use mathlib.Core.Path.{_≡_, refl, sym, ap, _∙_}
 use native.Mathlib.Omega.{arith}
-use lib.ListN.{length, take, drop, set, getD, length-append, length-take, length-drop, drop-of-length-le, List·getD-append}
+use lib.ListN.{length, drop, set, getD, length-append, length-take, length-drop, drop-of-length-le, List·getD-append}
 use lib.Seq.{take-all, drop-cons, set-at, take-append-le}
-use Rattle.key.specs.Piece.{pieceAt, sizeOf, answerOf, pieceAnswer}
+use Rattle.key.specs.Piece.{pieceAt, sizeOf}
 use Rattle.key.specs.declared.piece.Piece.{Piece}
 use Rattle.key.specs.declared.piece.Piece.the-variants.{Record, Gap, Refused}
 use Rattle.key.proofs.Pieces.{size-fits, from-gap, from-refused, record-sized}
 use Rattle.audit.specs.Partition.{Partition, stepOf, over, Walked}
 use Rattle.audit.specs.Row.{Rising}
-use Rattle.audit.specs.declared.chain.Outcome.{Outcome}
 use Rattle.audit.specs.declared.chain.Outcome.the-variants.{Whole, Fault}
 
 -- one piece more

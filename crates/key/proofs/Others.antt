@@ -32,11 +32,14 @@ module _ {A : Type 0} (f : Piece → A) (s : List ℕ) (p : ℕ) {r : Piece} (e 
   if-record i h = h ∙ ap f (sym i ∙ e .0)
 
 -- a record lies in the file, and its key in the record
-pub record-lies : (s : List ℕ) (p : ℕ) {r : Piece} {k : Key} → (r ≡ pieceAt s p) × (answerOf r ≡ pieceAnswer s p) → r ≡ Record k
-    → (p + k .nbytes ≤ length s) × (k .keylen ≤ k .nbytes)
-record-lies s p {r} {k} e i =
-    let h = from-record s p (sym (e .0) ∙ i) in
+pub record-there : (s : List ℕ) (p : ℕ) {k : Key} → pieceAt s p ≡ Record k → (p + k .nbytes ≤ length s) × (k .keylen ≤ k .nbytes)
+record-there s p {k} e =
+    let h = from-record s p e in
     let f = h .fits .1 .1 .1 in
     let a = ap (λ (k : Key). k .keylen) (h .is) in
     let b = ap (λ (k : Key). k .nbytes) (h .is) in
     (omega (arith, h .size, h .sized-there), omega arith)
+
+pub record-lies : (s : List ℕ) (p : ℕ) {r : Piece} {k : Key} → (r ≡ pieceAt s p) × (answerOf r ≡ pieceAnswer s p) → r ≡ Record k
+    → (p + k .nbytes ≤ length s) × (k .keylen ≤ k .nbytes)
+record-lies s p e i = record-there s p (sym (e .0) ∙ i)

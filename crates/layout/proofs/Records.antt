@@ -1,21 +1,27 @@
 -- The records that are pointed to: which answer, from facts.
-use Prim.Native.Nat.{ℕ, _+_}
+use Prim.Native.Nat.{ℕ, _+_, _≤_}
+use lib.ListN.{length}
+use mathlib.Core.Logic.{⊎-elim}
+use native.Mathlib.Omega.{arith}
+use Rattle.key.specs.Piece.{pieceAt}
+use Rattle.key.specs.declared.piece.Piece.{Piece}
+use Rattle.key.proofs.Others.{record-there}
 use mathlib.Core.Bool.{Bool, true, false, not}
 use mathlib.Core.List.{List, [], _∷_}
-use mathlib.Core.Path.{_≡_, sym, ap, _∙_, subst}
+use mathlib.Core.Path.{refl, _≡_, sym, ap, _∙_, subst}
 use borrow.Author.Tests.{eq-eqb}
 use lib.Dec.{T}
 use Rattle.wire.specs.Check.{Check, all, All}
 use Rattle.wire.specs.declared.text.Text.{Text}
-use Rattle.wire.proofs.Checks.{yes-all, not-all, all-yes, picked, not-picked}
+use Rattle.wire.proofs.Checks.{yes-all, not-all, all-yes, picked, not-picked, all-or}
 use Rattle.key.specs.Header.{sumOf, headerIn}
 use Rattle.key.specs.declared.header.Key.{Key}
 use Rattle.key.specs.declared.header.Header.the-variants.{Good, Bad}
-use Rattle.key.specs.declared.piece.Piece.the-variants.{Record}
+use Rattle.key.specs.declared.piece.Piece.the-variants.{Record, Gap, Refused}
 use Rattle.layout.specs.Name.{named, tFile, tDirectory, tList, streamerInfo}
 use Rattle.layout.proofs.Spans.{and-true}
 use Rattle.layout.specs.Dir.{headRecord, headOf, headDirIn}
-use Rattle.layout.specs.Keys.{listClass, listFits, listOf, freeFits, freeOf, infoFits, infoOf, plainOr, copyIn}
+use Rattle.layout.specs.Keys.{listClass, listFits, listOf, freeFits, freeOf, freeIn, infoFits, infoOf, plainOr, copyIn}
 use Rattle.layout.specs.declared.copies.Data.the-variants as held
 use Rattle.layout.specs.declared.dirs.Dir.{Dir}
 use Rattle.layout.specs.declared.dirs.Dir.the-variants as dir
@@ -89,3 +95,25 @@ module _ (s : List ℕ) (p end : ℕ) where
   pub a-copy : {k : Key} → Good k ≡ headerIn s p end → k .keylen ≡ sumOf k → Good k ≡ copyIn s p end
   unfolding copyIn
   a-copy {k} e h = sym (picked (Check.eq (k .keylen) (sumOf k) ∷ []) (Good k) Bad (h, tt)) ∙ ap plainOr e
+
+-- the data of a free list lies in the file
+data-lies : (s : List ℕ) (p n : ℕ) (r : Piece) {a end : ℕ} → pieceAt s p ≡ r → held.Held a end ≡ freeOf s p n r → (a ≤ end) × (end ≤ length s)
+data-lies s p n (Record k) {a} {end} i e =
+    ⊎-elim
+    (λ (h : All (freeFits s k n)).
+    let g = rw (picked (freeFits s k n) (held.Held (p + k .keylen) (p + k .nbytes)) held.Bad h) at e in
+    let l = record-there s p i in
+    let x : a ≡ p + k .keylen = cc in
+    let y : end ≡ p + k .nbytes = cc in
+    (omega arith, omega arith))
+    (λ (h : All (freeFits s k n) → ⊥).
+    let g = rw (not-picked (freeFits s k n) (held.Held (p + k .keylen) (p + k .nbytes)) held.Bad h) at e in
+    let z : _≡_ {A = ℕ} 0 1 = cc in
+    absurd (omega arith))
+    (all-or (freeFits s k n))
+data-lies s p n (Gap m) i e = let z : _≡_ {A = ℕ} 0 1 = cc in absurd (omega arith)
+data-lies s p n (Refused c q) i e = let z : _≡_ {A = ℕ} 0 1 = cc in absurd (omega arith)
+
+pub free-lies : (s : List ℕ) (p n : ℕ) {a end : ℕ} → held.Held a end ≡ freeIn s p n → (a ≤ end) × (end ≤ length s)
+unfolding freeIn
+free-lies s p n e = data-lies s p n (pieceAt s p) refl e

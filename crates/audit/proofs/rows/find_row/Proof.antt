@@ -1,17 +1,9 @@
--- uses
 use native.Mathlib.Omega.{arith}
 use borrow.Author.Needs.{needs}
-use denote.Ref.{now}
-use Prim.Native.Nat.{_-_, _≤_, _<_}
-use lib.ListN.{length}
-use mathlib.Core.Logic.{⊎-elim}
-use mathlib.Core.Path.{_≡_, _∙_, sym, ap, refl}
+use Prim.Native.Nat.{_-_}
 use Rattle.audit.proofs.Searches.{Between, began, go-up, go-down, none}
--- end
 use Rattle.audit.proofs.rows.find_row.Statement.{statement}
 use Rattle.audit.proofs.rows.find_row.Tie as tie
-use Rattle.audit.proofs.rows.find_row.Reads as reads
-use Rattle.audit.proofs.rows.find_row.Lts as lts
 
 abbrev Inv-loop : tie.InvT-loop
 Inv-loop start n place lo₀ hi₀ lo hi = Between start n place lo hi
@@ -19,51 +11,39 @@ Inv-loop start n place lo₀ hi₀ lo hi = Between start n place lo hi
 abbrev μ-loop : tie.MeasureT-loop
 μ-loop start n place lo₀ hi₀ lo hi = hi - lo
 
--- src/rows.rt:18:5
 loop-holds : tie.Need-loop-holds Inv-loop μ-loop
 loop-holds c = began _ _ _
 
--- src/rows.rt:19:25
 sub-mid : tie.Need-sub-mid Inv-loop μ-loop
 sub-mid c = search needs
 
--- src/rows.rt:19:19
 add-mid : tie.Need-add-mid Inv-loop μ-loop
 add-mid c = search needs
 
--- src/rows.rt:20:17
 mul-s : tie.Need-mul-s Inv-loop μ-loop
 mul-s c = search needs
 
--- src/rows.rt:20:17
 shared-slice-read-s : tie.Need-shared-slice-read-s Inv-loop μ-loop
 shared-slice-read-s c = search needs
 
--- src/rows.rt:22:13
 returns : tie.Need-returns Inv-loop μ-loop
 returns c = search needs
 
--- src/rows.rt:25:18
 add-lo : tie.Need-add-lo Inv-loop μ-loop
 add-lo c = search needs
 
--- src/rows.rt:18:5
 loop-less : tie.Need-loop-less Inv-loop μ-loop
 loop-less c = search needs
 
--- src/rows.rt:18:5
 loop-again : tie.Need-loop-again Inv-loop μ-loop
 loop-again c = go-up (c .before .before .before .before .before .pre .1) (c .before .before .before .before .loop .inv) _ (omega arith) (omega arith) (omega arith)
 
--- src/rows.rt:18:5
 loop-less-2 : tie.Need-loop-less-2 Inv-loop μ-loop
 loop-less-2 c = search needs
 
--- src/rows.rt:18:5
 loop-again-2 : tie.Need-loop-again-2 Inv-loop μ-loop
 loop-again-2 c = go-down (c .before .before .before .before .before .pre .1) (c .before .before .before .before .loop .inv) _ (omega arith) (omega arith) (omega arith) (λ e. omega arith)
 
--- src/rows.rt:12:1
 returns-2 : tie.Need-returns-2 Inv-loop μ-loop
 returns-2 c = none (c .before .loop .inv) (omega arith)
 

@@ -1,0 +1,45 @@
+use native.Mathlib.Omega.{arith}
+use borrow.Author.Needs.{needs}
+use Prim.Native.Nat.{_-_}
+use mathlib.Core.Path.{_∙_, sym, ap}
+use Rattle.audit.specs.Free.{gapOf}
+use borrow.Author.Needs.{needs}
+use Rattle.audit.proofs.lists.gap_size.Statement.{statement}
+use Rattle.audit.proofs.lists.gap_size.Tie as tie
+
+read-piece-requires : tie.Need-read-piece-requires
+read-piece-requires c κs = search needs
+
+enum-told : tie.Need-enum-told
+enum-told c = search needs
+
+enum-known-n : tie.Need-enum-known-n
+enum-known-n c = search needs
+
+cast-result : tie.Need-cast-result
+cast-result c = search needs
+
+enum-told-2 : tie.Need-enum-told-2
+enum-told-2 c = search needs
+
+returns : tie.Need-returns
+returns c = (ap gapOf (sym (c .enum-told .given .1) ∙ c .before .before .read-piece .ensures .0), omega arith)
+
+returns-2 : tie.Need-returns-2
+returns-2 c = (ap gapOf (sym (c .before .n .given .1) ∙ c .before .before .before .read-piece .ensures .0), omega arith)
+
+returns-3 : tie.Need-returns-3
+returns-3 c = (ap gapOf (sym (c .enum-told2 .given .1) ∙ c .before .before .read-piece .ensures .0), omega arith)
+
+pub gap-size-spec : {M : Type 1} → statement M
+gap-size-spec =
+    tie.close
+    (tie.spec
+    read-piece-requires
+    enum-told
+    enum-known-n
+    cast-result
+    enum-told-2
+    returns
+    returns-2
+    returns-3)
