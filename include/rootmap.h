@@ -13,6 +13,12 @@
  *   16  the key header would not be well formed, or a value does not fit its field
  *   17  SeekKey + Nbytes lies beyond the buffer
  *   18  a date field is not in its range
+ *   19  the info record is packed
+ *   20  the piece is no info record
+ *   21  a count, a length or an end in the info record is bad
+ *   22  a class tag in the info record is unknown, repeated or misplaced
+ *   23  an object in the info record is referenced
+ *   24  there are more elements than rows
  *
  * What the caller owes: no pointer is null, not even one of length 0; each points to as many
  * items as is said, aligned for their type; and memory that a function writes overlaps nothing
@@ -73,6 +79,29 @@ uint64_t rootmap_write_key(uint32_t nbytes, uint32_t version, uint32_t objlen, u
                            uint64_t seek_key, uint64_t seek_pdir, const uint8_t *class_name, size_t class_len,
                            const uint8_t *name, size_t name_len, const uint8_t *title, size_t title_len,
                            uint8_t *buf, size_t buf_len, uint64_t *place, uint64_t *count);
+
+/*
+ * Reads the unpacked StreamerInfo record at offset `at` of a whole file into a table of rows of six
+ * numbers. Every `at` is taken; neither the file header nor another piece is read. There is room for
+ * table_len / 6 rows, rounded down.
+ *
+ * Success: 0, place 0, count the rows, one for each element in the order of the record:
+ *    0  the index of the class whose element it is, from 0
+ *    1  its kind, 1 to 10: TStreamerBase, TStreamerBasicType, TStreamerString, TStreamerBasicPointer,
+ *       TStreamerObject, TStreamerObjectPointer, TStreamerLoop, TStreamerObjectAny, TStreamerSTL,
+ *       TStreamerSTLString
+ *    2  the offset in the record of its name's length byte
+ *    3  the offset in the record of its type name's length byte
+ *    4  fType
+ *    5  fArrayLength
+ * Later entries are 0, to the table's end.
+ *
+ * Refused: every entry of the table is 0. 5, 6, 20 or 19, in this order: place `at`, count 0. 21, 22
+ * or 23, for the first faulty field: place its offset in the file, count 0. 24, if nothing else is
+ * wrong: place 0, count the rows that are needed.
+ */
+uint64_t rootmap_info(const uint8_t *file, size_t file_len, uint64_t at, uint32_t *table, size_t table_len,
+                      uint64_t *place, uint64_t *count);
 
 #ifdef __cplusplus
 }

@@ -8,6 +8,9 @@ use crate::model::{date, Answer};
 use std::collections::BTreeMap;
 use std::hint::black_box;
 
+pub mod info;
+mod table;
+
 /// How many inputs were compared, and how often each number was answered.
 pub struct Tally {
     label: &'static str,
@@ -20,7 +23,7 @@ impl Tally {
         Tally { label, inputs: 0, numbers: BTreeMap::new() }
     }
 
-    fn add(&mut self, number: u64) {
+    pub fn add(&mut self, number: u64) {
         self.inputs += 1;
         *self.numbers.entry(number).or_default() += 1;
     }
@@ -50,6 +53,11 @@ pub fn answer_of(garbage: u64, call: impl FnOnce(&mut u64, &mut u64) -> u64) -> 
     Answer { number, place, count }
 }
 
+/// A copy of a file, to see that it is not written to. A huge one is not copied.
+fn small_copy(file: &[u8]) -> Option<Vec<u8>> {
+    (file.len() <= 1 << 20).then(|| file.to_vec())
+}
+
 pub fn pack_date(tally: &mut Tally, date: [u32; 6]) -> Answer {
     let got = answer_of(tally.garbage(), |place, count| ffi::pack_date(date, place, count));
     assert_eq!(got, date::pack_date(date), "pack_date {date:?}");
@@ -69,8 +77,7 @@ pub fn unpack_date(tally: &mut Tally, packed: u32) -> [u32; 6] {
 }
 
 pub fn read_piece(tally: &mut Tally, file: &[u8], at: u64) -> (Answer, [u64; 15]) {
-    // A huge file is not copied.
-    let copy = (file.len() <= 1 << 20).then(|| file.to_vec());
+    let copy = small_copy(file);
     let garbage = tally.garbage();
     let mut lent = [garbage; 17];
     let got = answer_of(garbage, |place, count| {

@@ -5,6 +5,8 @@
 
 use crate::model::key::NewKey;
 
+pub mod info;
+
 /// Indices into the fields of `read_piece`.
 pub const KIND: usize = 0;
 pub const NBYTES: usize = 1;

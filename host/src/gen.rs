@@ -2,6 +2,10 @@
 
 use crate::model::key::NewKey;
 
+pub mod faults;
+pub mod files;
+pub mod infos;
+
 /// The splitmix64 generator.
 pub struct Rng(u64);
 

@@ -5,8 +5,10 @@
 //! - `model`: the second implementation.
 //! - `gen`: inputs, the same in every run.
 //! - `compare`: both on one input, and a comparison of all that they answer and write.
+//! - `timing`: what the benchmarks share.
 
 pub mod compare;
 pub mod ffi;
 pub mod gen;
 pub mod model;
+pub mod timing;

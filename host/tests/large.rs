@@ -1,57 +1,25 @@
 //! Sizes near 2^31 and places near 2^32, in lent memory that is truly so long.
 
+mod zeros;
+
 use kirovadzun_host::compare::{answer_of, read_piece, Tally};
 use kirovadzun_host::ffi;
 use kirovadzun_host::gen::{plain_key_of, Rng};
 use kirovadzun_host::model::{key, Answer};
-use std::alloc::{alloc_zeroed, dealloc, Layout};
-use std::slice;
+use zeros::{Zeros, LEN};
 
 const WIDE: usize = 1 << 32;
-const LEN: usize = WIDE + 4096;
-
-/// Zeros, of which only the pages that are written take memory.
-struct Zeros(*mut u8);
 
 impl Zeros {
-    fn layout() -> Layout {
-        Layout::array::<u8>(LEN).unwrap()
-    }
-
-    fn new() -> Option<Self> {
-        // SAFETY: the layout is not empty.
-        let start = unsafe { alloc_zeroed(Self::layout()) };
-        (!start.is_null()).then_some(Zeros(start))
-    }
-
-    fn bytes(&mut self) -> &mut [u8] {
-        // SAFETY: LEN bytes, all zero at first, that only this value holds.
-        unsafe { slice::from_raw_parts_mut(self.0, LEN) }
-    }
-
     /// The first bytes, and those from 300 before `at` up to `len`.
     fn windows(&mut self, at: usize, len: usize) -> [Vec<u8>; 2] {
         [0..4096, at - 300..len].map(|window| self.bytes()[window].to_vec())
-    }
-
-    fn put(&mut self, at: usize, bytes: &[u8]) {
-        self.bytes()[at..at + bytes.len()].copy_from_slice(bytes);
-    }
-}
-
-impl Drop for Zeros {
-    fn drop(&mut self) {
-        // SAFETY: allocated with this layout.
-        unsafe { dealloc(self.0, Self::layout()) }
     }
 }
 
 #[test]
 fn wide_files() {
-    let Some(mut zeros) = Zeros::new() else {
-        println!("skipped: {LEN} bytes of memory are not to be had");
-        return;
-    };
+    let Some(mut zeros) = Zeros::new() else { return };
     let mut tally = Tally::new("read_piece, sizes near 2^31 and places near 2^32");
     let mut rng = Rng::new(40);
     greatest_pieces(&mut tally, &mut rng, &mut zeros);

@@ -2,6 +2,8 @@
 // pointer and a length. The number is returned; place and count are written in every case.
 ghost use mathlib.Core.Path.{_≡_};
 ghost use Rattle.wire.specs.Date.{packAnswer, unpacked};
+ghost use lib.ListN.{length};
+ghost use Rattle.streamer.specs.Info.{infoAnswer, infoTable};
 ghost use Rattle.key.specs.Piece.{pieceAt, pieceAnswer};
 ghost use Rattle.key.specs.Writer.{writeAnswer, writeBuffer};
 ghost use Rattle.capi.specs.Told.{Told, dateList, pieceList, recordList, dateOf, fieldsOf, storedCycle};
@@ -156,4 +158,22 @@ pub extern "C" fn rootmap_write_key(
     *place = w.place;
     *count = w.count;
     w.number
+}
+
+// The rows of the StreamerInfo record at a place, six numbers each: 0 and the rows as count; or 5, 6 or 19 to 24, with zeros.
+#[no_mangle]
+pub extern "C" fn rootmap_info(
+    file: &[u8],
+    at: u64,
+    table: &mut [u32],
+    place: &mut u64,
+    count: &mut u64,
+) -> u64
+    ensures { λ r. ⌜ Told (infoAnswer (now (file .entry)) at (length (now (table .entry)))) r (now (place .exit)) (now (count .exit))
+        × (now (table .exit) ≡ infoTable (now (file .entry)) at (length (now (table .entry)))) ⌝ }
+{
+    let i = streamer::read_info(file, at as usize, table);
+    *place = i.place;
+    *count = i.count;
+    i.number
 }

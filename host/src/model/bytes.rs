@@ -28,6 +28,10 @@ impl<'a> Cursor<'a> {
         self.take(N)?.try_into().ok()
     }
 
+    pub fn u8(&mut self) -> Option<u8> {
+        self.array().map(u8::from_be_bytes)
+    }
+
     pub fn u16(&mut self) -> Option<u16> {
         self.array().map(u16::from_be_bytes)
     }

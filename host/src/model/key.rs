@@ -27,6 +27,23 @@ pub struct Key {
     pub title: Range<usize>,
 }
 
+impl Key {
+    /// What its header takes.
+    pub fn sum(&self) -> usize {
+        FIXED + 1 + self.title.end - self.class.start
+    }
+
+    /// Whether nothing stands between the header and KeyLen.
+    pub fn is_plain(&self) -> bool {
+        usize::from(self.keylen) == self.sum()
+    }
+
+    /// Whether its record's data are not compressed.
+    pub fn is_unpacked(&self) -> bool {
+        self.objlen == self.nbytes - u32::from(self.keylen)
+    }
+}
+
 /// A record with its key, or a gap of a size.
 #[derive(Clone, Debug, PartialEq, Eq)]
 pub enum Piece {
@@ -60,8 +77,8 @@ pub fn read_piece(file: &[u8], at: u64) -> Result<Piece, u64> {
     }
 }
 
-/// The well-formed key header from `start` on; `bytes` end where its record ends.
-fn read_key(bytes: &[u8], start: usize) -> Option<Key> {
+/// The well-formed key header from `start` on, read up to the end of `bytes`.
+pub fn read_key(bytes: &[u8], start: usize) -> Option<Key> {
     let mut cursor = Cursor::new(bytes, start);
     let key = Key {
         nbytes: cursor.u32()?,

@@ -1,0 +1,175 @@
+-- The StreamerInfo record: its key, its list and the answers of the steps.
+use Prim.Native.Nat.{ℕ, _+_, _-_, _≤_}
+use mathlib.Core.List.{List, [], _∷_}
+use mathlib.Core.Bool.{Bool, true, false, not}
+use mathlib.Core.Path.{_≡_, refl, sym, _∙_}
+use mathlib.Core.Logic.{inl, inr}
+use native.Mathlib.Omega.{arith}
+use borrow.Author.Tests.{eq-eqb, ne-eqb, eqb-true}
+use lib.ListN.{length, take, drop}
+use lib.Dec.{eqb}
+use Rattle.wire.specs.Check.{all, All, pick}
+use Rattle.wire.specs.Text.{textAt, contentOf}
+use Rattle.key.specs.Header.{keyAt, namesAt, sumOf, plain, unpackedData}
+use Rattle.key.specs.Piece.{sizeAt, recordThere, sized, recordFits, pieceAt}
+use Rattle.key.specs.declared.header.Key.{Key}
+use Rattle.key.specs.declared.piece.Piece.{Piece}
+use Rattle.key.specs.declared.piece.Piece.the-variants.{Record, Gap, Refused}
+use Rattle.wire.proofs.Checks.{yes-all, not-all, all-yes}
+use Rattle.key.proofs.Pieces.{size-plus}
+use Rattle.streamer.proofs.Runs.{ended-stop}
+use Rattle.streamer.specs.Row.{stop, Ended}
+use denote.Enum.Declared.{tagOf}
+use types.Run.{OneOf}
+use Rattle.key.proofs.piece.Piece.{the-type}
+use Rattle.streamer.specs.Tag.{spells}
+use Rattle.streamer.specs.Info.{sized as sizedBy, filling, wholeAt, listName, infoName, isInfo, listAt, recordAt, onPiece, infoAt, noRecord}
+use Rattle.streamer.specs.Field.{countAt}
+use Rattle.streamer.specs.declared.field.Count.{Count}
+use Rattle.streamer.specs.declared.field.Count.the-variants.{Open, Bad}
+use Rattle.streamer.specs.declared.info.Size.{Size}
+use Rattle.streamer.specs.declared.info.Collection.{Collection}
+use Rattle.streamer.specs.declared.info.Collection.the-variants.{Held, Wrong}
+
+-- what a list or an array starts with
+pub go-sized : {A : Type 0} (w : ℕ → ℕ → A) (f : Size → A) {x y : Collection} {n : Size} {r : A} → y ≡ x → y ≡ Held n → r ≡ f n → r ≡ sizedBy w x f
+unfolding sizedBy
+go-sized w f e g h = rw (sym e ∙ g) h
+
+pub halt-sized : {A : Type 0} (w : ℕ → ℕ → A) (f : Size → A) {x y : Collection} {c p : ℕ} → y ≡ x → y ≡ Wrong c p → w c p ≡ sizedBy w x f
+unfolding sizedBy
+halt-sized w f e g = rw (sym e ∙ g)
+
+-- the ByteCount of the list
+module _ (s : List ℕ) (p e : ℕ) {y : Count} (is : y ≡ countAt s p e) where
+  pub whole-bad : y ≡ Bad → Bad ≡ wholeAt s p e
+  unfolding wholeAt
+  whole-bad g = rw (sym is ∙ g)
+
+  pub whole-not : {q f : ℕ} → y ≡ Open q f → (f ≡ e → ⊥) → Bad ≡ wholeAt s p e
+  unfolding wholeAt
+  whole-not {q} {f} g h = rw (sym is ∙ g, ne-eqb f e h)
+
+  pub whole-is : {q f : ℕ} → y ≡ Open q f → f ≡ e → Open q f ≡ wholeAt s p e
+  unfolding wholeAt
+  whole-is {q} {f} g h = rw (sym is ∙ g, eq-eqb f e h)
+
+-- where the strings of a key stand
+pub record Places (s : List ℕ) (p : ℕ) (k : Key) : Type 0 where
+  pub sum : k .title .next ≡ p + sumOf k
+  pub class : k .class .next ≡ k .class .start + k .class .len
+  pub name : k .name .next ≡ k .name .start + k .name .len
+  pub before : k .class .next ≤ k .name .start
+  pub after : k .name .next ≤ k .title .next
+
+places : (s : List ℕ) (p : ℕ) → Places s p (keyAt s p)
+unfolding keyAt namesAt textAt
+places s p = record { sum = omega arith; class = omega arith; name = omega arith; before = omega arith; after = omega arith }
+
+pub key-places : (s : List ℕ) (p : ℕ) {k : Key} → k ≡ keyAt s p → Places s p k
+key-places s p e = rw e (places s p)
+
+-- the key of the StreamerInfo record, or another
+module _ (s : List ℕ) (k : Key) where
+  pub not-plain : (k .keylen ≡ sumOf k → ⊥) → false ≡ isInfo s k
+  not-plain h = rw (ne-eqb (k .keylen) (sumOf k) h)
+
+  is-plain : k .keylen ≡ sumOf k → all (plain k) ≡ true
+  is-plain h = yes-all (plain k) (h, tt)
+
+  module _ (h : k .keylen ≡ sumOf k) (m : ℕ) (i : m ≡ k .class .len) {y : Bool} (is : y ≡ spells (take m (drop (k .class .start) s)) listName) where
+    class-is : spells (contentOf s (k .class)) listName ≡ y
+    unfolding contentOf
+    class-is = rw (← i) (sym is)
+
+    pub other-class : y ≡ false → false ≡ isInfo s k
+    other-class g = rw (is-plain h, class-is, g)
+
+    pub by-name : y ≡ true → (l : ℕ) → l ≡ k .name .len → {x : Bool} → x ≡ spells (take l (drop (k .name .start) s)) infoName → x ≡ isInfo s k
+    unfolding contentOf
+    by-name g l j d = rw (is-plain h, class-is, g, ← j) d
+
+-- a record that was read at a place
+pub from-record : (s : List ℕ) (p : ℕ) {y : Piece} {k : Key} → y ≡ pieceAt s p → y ≡ Record k → (k ≡ keyAt s p) × (All (sized s p) × All (recordFits s p))
+unfolding pieceAt
+from-record s p {y} {k} d g = go (all (sized s p)) refl (sym g ∙ d)
+  where
+    last : (b : Bool) → all (recordFits s p) ≡ b → All (sized s p) → Record k ≡ pick b (Record (keyAt s p)) (Refused 6 p) → (k ≡ keyAt s p) × (All (sized s p) × All (recordFits s p))
+    last true e h i = (cc, (h, all-yes (recordFits s p) e))
+    last false e h i = let z : _≡_ {A = ℕ} 0 1 = cc in absurd (omega arith)
+
+    next : (b : Bool) → All (sized s p) → Record k ≡ pick b (pick (all (recordFits s p)) (Record (keyAt s p)) (Refused 6 p)) (Gap (sizeAt s p)) → (k ≡ keyAt s p) × (All (sized s p) × All (recordFits s p))
+    next true h i = last (all (recordFits s p)) refl h i
+    next false h i = let z : _≡_ {A = ℕ} 0 1 = cc in absurd (omega arith)
+
+    go : (b : Bool) → all (sized s p) ≡ b → Record k ≡ pick b (pick (recordThere s p) (pick (all (recordFits s p)) (Record (keyAt s p)) (Refused 6 p)) (Gap (sizeAt s p))) (Refused 5 p) → (k ≡ keyAt s p) × (All (sized s p) × All (recordFits s p))
+    go true e i = next (recordThere s p) (all-yes (sized s p) e) i
+    go false e i = let z : _≡_ {A = ℕ} 0 1 = cc in absurd (omega arith)
+
+-- the end of the list is the data's
+pub from-whole : (s : List ℕ) (p e : ℕ) {y : Count} {q f : ℕ} → y ≡ wholeAt s p e → y ≡ Open q f → f ≡ e
+unfolding wholeAt
+from-whole s p e {y} {q} {f} d g = go (countAt s p e) (sym g ∙ d)
+  where
+    by : (a b : ℕ) (c : Bool) → eqb b e ≡ c → Open q f ≡ pick c (Open a b) Bad → f ≡ e
+    by a b true h i = let j : f ≡ b = cc in j ∙ eqb-true b e h
+    by a b false h i = let z : _≡_ {A = ℕ} 0 1 = cc in absurd (omega arith)
+
+    go : (x : Count) → Open q f ≡ filling x e → f ≡ e
+    go (Open a b) i = by a b (eqb b e) refl i
+    go Bad i = let z : _≡_ {A = ℕ} 0 1 = cc in absurd (omega arith)
+
+-- what is known of a record that was read
+pub record Found (s : List ℕ) (p : ℕ) (k : Key) : Type 0 where
+  pub is : k ≡ keyAt s p
+  pub small : k .nbytes ≤ 2147483647
+  pub key : k .keylen ≤ k .nbytes
+  pub fits : p + k .nbytes ≤ length s
+  pub strings : k .title .next ≤ length s
+
+found-at : (s : List ℕ) (p : ℕ) → All (Rattle.key.specs.Piece.sized s p) → All (recordFits s p) → Found s p (keyAt s p)
+unfolding keyAt
+found-at s p h g =
+    let e = size-plus s p (omega (arith, g .1 .1 .1 .1 .1 .1 .0)) in
+    record { is = refl; small = omega (arith, g); key = omega (arith, g); fits = omega (arith, h, g); strings = omega (arith, h, g) }
+
+pub found : (s : List ℕ) (p : ℕ) {y : Piece} {k : Key} → y ≡ pieceAt s p → y ≡ Record k → Found s p k
+found s p d g = let f = from-record s p d g in rw (f .0) (found-at s p (f .1 .0) (f .1 .1))
+
+-- a test that was turned round
+pub turned : (b : Bool) → not b ≡ true → b ≡ false
+turned true e = sym e
+turned false e = refl
+
+pub turned-not : (b : Bool) → not b ≡ false → b ≡ true
+turned-not true e = refl
+turned-not false e = sym e
+
+-- what the record gives
+module _ (s : List ℕ) (p : ℕ) {y : Piece} (is : y ≡ pieceAt s p) where
+  here : {k : Key} → y ≡ Record k → recordAt s p k ≡ infoAt s p
+  unfolding infoAt
+  here g = rw (sym is ∙ g)
+
+  pub other-key : {k : Key} → y ≡ Record k → {b : Bool} → b ≡ isInfo s k → b ≡ false → stop 20 p ≡ infoAt s p
+  unfolding recordAt
+  other-key {k} g d i = sym (rw (sym d ∙ i)) ∙ here g
+
+  pub packed : {k : Key} → y ≡ Record k → {b : Bool} → b ≡ isInfo s k → b ≡ true → (k .objlen + k .keylen ≡ k .nbytes → ⊥) → stop 19 p ≡ infoAt s p
+  unfolding recordAt
+  packed {k} g d i h = sym (rw (sym d ∙ i, not-all (unpackedData k) (λ f. h (f .0)))) ∙ here g
+
+  pub unpacked : {k : Key} → y ≡ Record k → {b : Bool} → b ≡ isInfo s k → b ≡ true → k .objlen + k .keylen ≡ k .nbytes
+      → listAt s p (p + k .keylen) (p + k .nbytes) ≡ infoAt s p
+  unfolding recordAt
+  unpacked {k} g d i h = sym (rw (sym d ∙ i, yes-all (unpackedData k) (h, tt))) ∙ here g
+
+  pub no-record : (t u : List ℕ) → OneOf (1 ∷ 2 ∷ []) (tagOf the-type y) → Ended (infoAt s p) t (noRecord y p) u
+  unfolding infoAt
+  no-record t u h = rw (← is) (go y h)
+    where
+      go : (x : Piece) → OneOf (1 ∷ 2 ∷ []) (tagOf the-type x) → Ended (onPiece s p x) t (noRecord x p) u
+      go (Record k) (inl z) = absurd (omega arith)
+      go (Record k) (inr z) = absurd (omega arith)
+      go (Gap n) i = ended-stop t u refl
+      go (Refused c q) i = ended-stop t u refl

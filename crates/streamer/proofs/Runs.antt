@@ -1,0 +1,219 @@
+-- Runs: an answer with the tags and the table at exit.
+use Prim.Native.Nat.{ℕ, zero, suc, _+_, _-_, _/_, _<_, _≤_}
+use mathlib.Core.List.{List, [], _∷_}
+use mathlib.Core.Path.{_≡_, refl, sym, ap, _∙_}
+use native.Mathlib.Nat.{add-zero, zero-add, suc-add}
+use native.Mathlib.Numerals.{add-one}
+use native.Mathlib.Omega.{arith}
+use borrow.Author.Tests.{le-leb, lt-leb}
+use mathlib.Core.Bool.{Bool, true, false}
+use lib.ListN.{length, length-append, replicate}
+use lib.Dec.{eqb}
+use Rattle.wire.specs.Answer.{done, refusal}
+use Rattle.wire.specs.Check.{pick}
+use Rattle.streamer.specs.Info.{tooMany, answered, filled}
+use Rattle.streamer.specs.Field.{andThen, endedAt}
+use Rattle.streamer.specs.Row.{putRow, putRows, Run, going, stop, onto, goOn, times, ends, Ran, Grown, Ended, closedRows}
+use Rattle.streamer.specs.declared.field.Step.the-variants as step
+use Rattle.streamer.specs.declared.row.Row.{Row}
+use Rattle.streamer.specs.declared.row.Rows.{Rows}
+use Rattle.streamer.specs.declared.row.Rows.the-variants.{Next, Wrong}
+use Rattle.streamer.proofs.Tables.{more-rows, all-rows}
+
+pub ran-stop : {run : Run} {c p : ℕ} (t : List ℕ) (n : ℕ) (us u : List ℕ) → stop c p ≡ run → Ran run t n (Wrong c p) us u
+unfolding Ran
+ran-stop t n us u e = rw (← e) (refl, refl)
+
+pub ran-going : {run : Run} {ts : List ℕ} {rs : List Row} {p : ℕ} (t : List ℕ) (n : ℕ) (m : ℕ) (u : List ℕ) → going ts rs p ≡ run
+    → m ≡ n + length rs → u ≡ putRows t n rs → Ran run t n (Next p m) ts u
+unfolding Ran
+ran-going t n m u e h k = rw (← e) (refl, h, refl, k)
+
+-- an answer that is a run's
+pub as-run : {run run′ : Run} (t : List ℕ) (n : ℕ) (a : Rows) (us u : List ℕ) → run ≡ run′ → Ran run t n a us u → Ran run′ t n a us u
+as-run t n a us u e h = rw e at h
+
+-- rows grown
+pub not-grown : (n k c p : ℕ) → Grown n k (Wrong c p)
+unfolding Grown
+not-grown n k c p = tt
+
+pub is-grown : (n k q m : ℕ) → m ≤ n + k → Grown n k (Next q m)
+unfolding Grown
+is-grown n k q m h = h
+
+pub grown-by : (n k : ℕ) {a : Rows} {q m : ℕ} → Grown n k a → a ≡ Next q m → m ≤ n + k
+unfolding Grown
+grown-by n k h e = rw e at h
+
+pub wrong-grown : (n k j l : ℕ) {a : Rows} {c p : ℕ} → a ≡ Wrong c p → Grown n k a
+unfolding Grown
+wrong-grown n k j l e = rw e tt
+
+-- one row
+pub record Same (r r′ : Row) : Type 0 where
+  pub class : r .class ≡ r′ .class
+  pub kind : r .kind ≡ r′ .kind
+  pub name : r .name ≡ r′ .name
+  pub typename : r .typename ≡ r′ .typename
+  pub ftype : r .ftype ≡ r′ .ftype
+  pub length : r .length ≡ r′ .length
+
+same : {r r′ : Row} → Same r r′ → r ≡ r′
+same h = λ i. record { class = h .class i; kind = h .kind i; name = h .name i; typename = h .typename i; ftype = h .ftype i; length = h .length i }
+
+pub one-row : {run : Run} {ts : List ℕ} {r r′ : Row} {p : ℕ} (t : List ℕ) (n : ℕ) {u : List ℕ} → going ts (r′ ∷ []) p ≡ run
+    → Same r r′ → u ≡ putRow t n r → Ran run t n (Next p (n + 1)) ts u
+unfolding putRows
+one-row t n {u} e h k = ran-going t n (n + 1) u e refl (k ∙ ap (putRow t n) (same h))
+
+-- an object's end
+pub closed-next : (a : Rows) (e : ℕ) {q m : ℕ} {b : Rows} → a ≡ Next q m → b ≡ andThen Wrong (endedAt q e) (λ r. Next r m) → b ≡ closedRows a e
+closed-next a e g h = rw g h
+
+next-ends : (ts : List ℕ) (rs : List Row) (t : List ℕ) (n p q m e : ℕ) (us u : List ℕ) → (q ≡ p) × (m ≡ n + length rs) × (us ≡ ts) × (u ≡ putRows t n rs)
+    → Ran (ends (going ts rs p) e) t n (closedRows (Next q m) e) us u
+unfolding Ran ends andThen endedAt
+next-ends ts rs t n p q m e us u h = go (eqb p e) refl
+  where
+    go : (b : Bool) → eqb p e ≡ b → Ran (ends (going ts rs p) e) t n (closedRows (Next q m) e) us u
+    go true g = rw (h .0, g) (refl, h .1, h .2, h .3)
+    go false g = rw (h .0, g) (refl, refl)
+
+pub ran-ends : (run : Run) (t : List ℕ) (n e : ℕ) (a b : Rows) (us u : List ℕ) → Ran run t n a us u → b ≡ closedRows a e → Ran (ends run e) t n b us u
+unfolding Ran ends
+ran-ends (going ts rs p) t n e (Next q m) b us u h g = rw g (next-ends ts rs t n p q m e us u h)
+ran-ends (going ts rs p) t n e (Wrong d q) b us u h g = absurd h
+ran-ends (stop c p) t n e (Next q m) b us u h g = absurd h
+ran-ends (stop c p) t n e (Wrong d q) b us u h g = rw g h
+
+closed-grown : (n k e : ℕ) (a : Rows) → Grown n k a → Grown n k (closedRows a e)
+unfolding Grown andThen endedAt
+closed-grown n k e (Next q m) h = go (eqb q e)
+  where
+    go : (b : Bool) → Grown n k (andThen Wrong (pick b (step.Next q) (step.Wrong 21 q)) (λ r. Next r m))
+    go true = h
+    go false = tt
+closed-grown n k e (Wrong c p) h = tt
+
+pub grown-ends : (n k e : ℕ) (a b : Rows) → Grown n k a → b ≡ closedRows a e → Grown n k b
+grown-ends n k e a b h g = rw g (closed-grown n k e a h)
+
+-- objects one after the other: after k of them from p with the tags ts, the place q, the tags us, m rows and the table u
+pub record Reading (f : ℕ → List ℕ → ℕ → Run) (ts : List ℕ) (p : ℕ) (t : List ℕ) (n k : ℕ) (us : List ℕ) (q : ℕ) (u : List ℕ) (m : ℕ) : Type 0 where
+  pub run : Ran (times f ts p k) t n (Next q m) us u
+  pub tags : length us ≡ length ts
+  pub table : length u ≡ length t
+
+pub read-began : (f : ℕ → List ℕ → ℕ → Run) (ts : List ℕ) (p : ℕ) (t : List ℕ) (n : ℕ) → Reading f ts p t n 0 ts p t n
+unfolding times Ran putRows
+read-began f ts p t n = record { run = (refl, sym (add-zero n), refl, refl); tags = refl; table = refl }
+
+goes : (f : List ℕ → ℕ → Run) (x : Run) (t : List ℕ) (n : ℕ) (q m : ℕ) (us u : List ℕ) (a : Rows) (us′ u′ : List ℕ) → Ran x t n (Next q m) us u
+    → Ran (f us q) u m a us′ u′ → Ran (goOn f x) t n a us′ u′
+unfolding Ran
+goes f (stop c p) t n q m us u a us′ u′ h g = absurd h
+goes f (going ts rs p) t n q m us u a us′ u′ h g =
+    let g′ : Ran (f ts p) (putRows t n rs) (n + length rs) a us′ u′ = rw (h .0, h .1, h .2, h .3) at g in
+    go (f ts p) a g′
+  where
+    go : (y : Run) (a : Rows) → Ran y (putRows t n rs) (n + length rs) a us′ u′ → Ran (onto rs y) t n a us′ u′
+    go (going ts′ ss p′) (Next q′ m′) k =
+        (k .0, k .1 ∙ rw length-append (omega arith), k .2, k .3 ∙ more-rows t n rs ss)
+    go (going ts′ ss p′) (Wrong c r) k = absurd k
+    go (stop c r) (Next q′ m′) k = absurd k
+    go (stop c r) (Wrong d r′) k = k
+
+stays : (f : ℕ → List ℕ → ℕ → Run) (ts : List ℕ) (p k c r j : ℕ) → stop c r ≡ times f ts p k → stop c r ≡ times f ts p (j + k)
+unfolding times
+stays f ts p k c r zero e = rw zero-add e
+stays f ts p k c r (suc j) e = rw (suc-add, ← (stays f ts p k c r j e))
+
+stop-is : (x : Run) (t : List ℕ) (n c r : ℕ) (us u : List ℕ) → Ran x t n (Wrong c r) us u → stop c r ≡ x
+unfolding Ran
+stop-is (going ts rs p) t n c r us u h = absurd h
+stop-is (stop d q) t n c r us u h = λ i. stop (h .0 i) (h .1 i)
+
+module _ {f : ℕ → List ℕ → ℕ → Run} {ts : List ℕ} {p : ℕ} {t : List ℕ} {n k : ℕ} {us : List ℕ} {q : ℕ} {u : List ℕ} {m : ℕ} (h : Reading f ts p t n k us q u m) where
+  one-more : (a : Rows) (us′ u′ : List ℕ) → Ran (f k us q) u m a us′ u′ → Ran (times f ts p (suc k)) t n a us′ u′
+  unfolding times
+  one-more a us′ u′ g = goes (f k) (times f ts p k) t n q m us u a us′ u′ (h .run) g
+
+  pub read-more : (a : Rows) {q′ m′ : ℕ} {us′ u′ : List ℕ} → Ran (f k us q) u m a us′ u′ → a ≡ Next q′ m′ → length us′ ≡ length us → length u′ ≡ length u
+      → Reading f ts p t n (k + 1) us′ q′ u′ m′
+  read-more a {q′} {m′} {us′} {u′} g e i j = record {
+    run = rw add-one (one-more (Next q′ m′) us′ u′ (rw e at g));
+    tags = i ∙ h .tags;
+    table = j ∙ h .table;
+  }
+
+  pub read-ended : (l : ℕ) → k ≡ l → Ran (times f ts p l) t n (Next q m) us u
+  read-ended l e = rw (← e) (h .run)
+
+  pub read-stopped : (a : Rows) (l : ℕ) {c r : ℕ} (us′ u′ : List ℕ) → k < l → Ran (f k us q) u m a us′ u′ → a ≡ Wrong c r → Ran (times f ts p l) t n a us′ u′
+  read-stopped a l {c} {r} us′ u′ b g e =
+      let w = stop-is (times f ts p (suc k)) t n c r us′ u′ (one-more (Wrong c r) us′ u′ (rw e at g)) in
+      let i : l - suc k + suc k ≡ l = omega arith in
+      rw e (ran-stop t n us′ u′ (rw i at (stays f ts p (suc k) c r (l - suc k) w)))
+
+-- runs from an empty table, with the tags left out
+pub ended-stop : {run : Run} {c p : ℕ} (t u : List ℕ) → stop c p ≡ run → Ended run t (Wrong c p) u
+unfolding Ended
+ended-stop t u e = ([], ran-stop t 0 [] u e)
+
+pub ended-of : (run : Run) (t : List ℕ) (a : Rows) (us u : List ℕ) → Ran run t 0 a us u → Ended run t a u
+unfolding Ended
+ended-of run t a us u h = (us, h)
+
+pub as-ended : {run run′ : Run} (t : List ℕ) (a : Rows) (u : List ℕ) → run ≡ run′ → Ended run t a u → Ended run′ t a u
+as-ended t a u e h = rw e at h
+
+-- the answer and the table of a run: rows, too many rows, a fault
+module _ (n : ℕ) where
+  rows-of : (run : Run) (u : List ℕ) (q m : ℕ) (us : List ℕ) → Ran run (replicate n 0) 0 (Next q m) us u → m ≤ n / 6
+      → (done m ≡ answered run n) × (u ≡ filled run n)
+  unfolding Ran
+  rows-of (going ts rs p) u q m us h l =
+      let e : m ≡ length rs = h .1 ∙ zero-add (length rs) in
+      let f = le-leb (length rs) (n / 6) (omega arith) in
+      (rw f (ap done e), rw f (h .3 ∙ all-rows n rs (omega arith)))
+  rows-of (stop c p) u q m us h l = absurd h
+
+  many-of : (run : Run) (u : List ℕ) (q m : ℕ) (us : List ℕ) → Ran run (replicate n 0) 0 (Next q m) us u → n / 6 < m
+      → (tooMany m ≡ answered run n) × (replicate n 0 ≡ filled run n)
+  unfolding Ran
+  many-of (going ts rs p) u q m us h l =
+      let e : m ≡ length rs = h .1 ∙ zero-add (length rs) in
+      let f = lt-leb (length rs) (n / 6) (omega arith) in
+      (rw f (ap tooMany e), rw f)
+  many-of (stop c p) u q m us h l = absurd h
+
+  stop-of : (run : Run) (t u : List ℕ) (c p : ℕ) (us : List ℕ) → Ran run t 0 (Wrong c p) us u
+      → (refusal c p ≡ answered run n) × (replicate n 0 ≡ filled run n)
+  unfolding Ran
+  stop-of (going ts rs r) t u c p us h = absurd h
+  stop-of (stop d r) t u c p us h = (λ i. refusal (h .0 i) (h .1 i), refl)
+
+  pub answer-rows : (run : Run) {t : List ℕ} (u : List ℕ) {a : Rows} {q m : ℕ} → t ≡ replicate n 0 → Ended run t a u → a ≡ Next q m → m ≤ n / 6
+      → (done m ≡ answered run n) × (u ≡ filled run n)
+  unfolding Ended
+  answer-rows run {t} u {a} {q} {m} e h g l =
+      let k : Ran run (replicate n 0) 0 (Next q m) (h .0) u = rw (e, g) at (h .1) in rows-of run u q m (h .0) k l
+
+  pub answer-many : (run : Run) {t : List ℕ} (u v : List ℕ) {a : Rows} {q m : ℕ} → t ≡ replicate n 0 → Ended run t a u → a ≡ Next q m → n / 6 < m
+      → (k : ℕ) → v ≡ replicate k 0 → k ≡ n → (tooMany m ≡ answered run n) × (v ≡ filled run n)
+  unfolding Ended
+  answer-many run {t} u v {a} {q} {m} e h g l k i j =
+      let x : Ran run (replicate n 0) 0 (Next q m) (h .0) u = rw (e, g) at (h .1) in
+      let y = many-of run u q m (h .0) x l in
+      let z : v ≡ replicate n 0 = i ∙ ap (λ (b : ℕ). replicate b 0) j in
+      (y .0, z ∙ y .1)
+
+  pub answer-stop : (run : Run) (t u v : List ℕ) {a : Rows} {c p : ℕ} → Ended run t a u → a ≡ Wrong c p
+      → (k : ℕ) → v ≡ replicate k 0 → k ≡ n → (refusal c p ≡ answered run n) × (v ≡ filled run n)
+  unfolding Ended
+  answer-stop run t u v {a} {c} {p} h g k i j =
+      let x : Ran run t 0 (Wrong c p) (h .0) u = rw g at (h .1) in
+      let y = stop-of run t u c p (h .0) x in
+      let z : v ≡ replicate n 0 = i ∙ ap (λ (b : ℕ). replicate b 0) j in
+      (y .0, z ∙ y .1)

@@ -1,0 +1,67 @@
+use lib.ListN.{length}
+use native.Mathlib.Omega.{arith}
+use Rattle.streamer.specs.Info.{infoAnswer, infoTable}
+use Rattle.streamer.proofs.Runs.{answer-rows, answer-many, answer-stop}
+use borrow.Author.Needs.{needs}
+use Rattle.streamer.proofs.read_info.Statement.{statement}
+use Rattle.streamer.proofs.read_info.Tie as tie
+
+clear-requires : tie.Need-clear-requires
+clear-requires c κs = search needs
+
+read-record-requires : tie.Need-read-record-requires
+read-record-requires c κs = search needs
+
+enum-known--next : tie.Need-enum-known--next
+enum-known--next c = search needs
+
+clear-requires-2 : tie.Need-clear-requires-2
+clear-requires-2 c κs = search needs
+
+same-length : tie.Need-same-length
+same-length c = search needs
+
+returns : tie.Need-returns
+unfolding infoAnswer infoTable
+returns c = let k = c .before .before .before .before .before .before .before .before .before .before .read-record .kept in let l = c .before .before .before .before .before .before .before .before .before .before .before .before .before .before .clear .kept in answer-many _ _ _ _ (c .before .before .before .before .before .before .before .before .before .before .before .before .before .before .clear .ensures) (c .before .before .before .before .before .before .before .before .before .before .read-record .ensures) (c .before .before .before .before .before .before .-next .given .1) (omega (arith, k .1 .1 .0, l .0)) (length (c .before .before .before .before .before .before .before .before .before .before .read-record .last .1 .1 .0)) (c .before .before .clear2 .ensures) (omega (arith, k .1 .1 .0, l .0))
+
+enum-known-number : tie.Need-enum-known-number
+enum-known-number c = search needs
+
+clear-requires-3 : tie.Need-clear-requires-3
+clear-requires-3 c κs = search needs
+
+cast-t26 : tie.Need-cast-t26
+cast-t26 c = search needs
+
+same-length-2 : tie.Need-same-length-2
+same-length-2 c = search needs
+
+returns-2 : tie.Need-returns-2
+unfolding infoAnswer infoTable
+returns-2 c = let k = c .before .before .before .before .before .before .read-record .kept in let l = c .before .before .before .before .before .before .before .before .before .before .clear .kept in answer-rows _ _ _ (c .before .before .before .before .before .before .before .before .before .before .clear .ensures) (c .before .before .before .before .before .before .read-record .ensures) (c .before .before .-next .given .1) (omega (arith, k .1 .1 .0, l .0))
+
+same-length-3 : tie.Need-same-length-3
+same-length-3 c = search needs
+
+returns-3 : tie.Need-returns-3
+unfolding infoAnswer infoTable
+returns-3 c = let k = c .before .before .before .before .before .before .before .before .before .read-record .kept in let l = c .before .before .before .before .before .before .before .before .before .before .before .before .before .clear .kept in answer-stop _ _ _ _ _ (c .before .before .before .before .before .before .before .before .before .read-record .ensures) (c .before .before .before .before .before .number .given .1) (length (c .before .before .before .before .before .before .before .before .before .read-record .last .1 .1 .0)) (c .before .before .clear3 .ensures) (omega (arith, k .1 .1 .0, l .0))
+
+pub read-info-spec : {M : Type 1} → statement M
+read-info-spec =
+    tie.close
+    (tie.spec
+    clear-requires
+    read-record-requires
+    enum-known--next
+    clear-requires-2
+    same-length
+    returns
+    enum-known-number
+    clear-requires-3
+    cast-t26
+    same-length-2
+    returns-2
+    same-length-3
+    returns-3)

@@ -1,0 +1,45 @@
+use denote.Ref.{now}
+use lib.ListN.{length-set}
+use Rattle.wire.proofs.Numbers.{stored}
+use Rattle.streamer.specs.Row.{six}
+use native.Mathlib.Omega.{arith}
+use borrow.Author.Needs.{needs}
+use Rattle.streamer.proofs.row.put_six.Statement.{statement}
+use Rattle.streamer.proofs.row.put_six.Tie as tie
+
+slice-write-part : tie.Need-slice-write-part
+slice-write-part c = search needs
+
+slice-write-part-2 : tie.Need-slice-write-part-2
+slice-write-part-2 c = simp length-set (omega arith)
+
+slice-write-part-3 : tie.Need-slice-write-part-3
+slice-write-part-3 c = simp length-set (omega arith)
+
+slice-write-part-4 : tie.Need-slice-write-part-4
+slice-write-part-4 c = simp length-set (omega arith)
+
+slice-write-part-5 : tie.Need-slice-write-part-5
+slice-write-part-5 c = simp length-set (omega arith)
+
+slice-write-part-6 : tie.Need-slice-write-part-6
+slice-write-part-6 c = simp length-set (omega arith)
+
+same-length : tie.Need-same-length
+same-length c = search needs
+
+returns : tie.Need-returns
+returns c = stored (six (c .args .row)) (now (c .args .part)) (omega arith)
+
+pub put-six-spec : {M : Type 1} → statement M
+put-six-spec =
+    tie.close
+    (tie.spec
+    slice-write-part
+    slice-write-part-2
+    slice-write-part-3
+    slice-write-part-4
+    slice-write-part-5
+    slice-write-part-6
+    same-length
+    returns)

@@ -1,0 +1,5 @@
+pub mod Field
+pub mod Tag
+pub mod Row
+pub mod Element
+pub mod Info

@@ -1,0 +1,51 @@
+//! A table that is lent, and what is printed of a file when something differs.
+
+use std::hint::black_box;
+
+/// Guard numbers before and after a lent table.
+const GUARD: usize = 4;
+
+/// A table that is lent, full of what an earlier call may have left, between two guards.
+pub struct Table {
+    numbers: Vec<u32>,
+    guard: u32,
+}
+
+impl Table {
+    pub fn new(len: usize, fill: u32, guard: u32) -> Self {
+        let mut numbers = vec![guard; len + 2 * GUARD];
+        numbers[GUARD..GUARD + len].fill(fill);
+        Table { numbers, guard }
+    }
+
+    pub fn lent(&mut self) -> &mut [u32] {
+        let end = self.numbers.len() - GUARD;
+        &mut self.numbers[GUARD..end]
+    }
+
+    /// Whether it holds `rows`, then zeros, and the guards stand.
+    pub fn holds(&mut self, rows: impl ExactSizeIterator<Item = u32>) -> bool {
+        let len = rows.len();
+        let guard = [self.guard; GUARD];
+        let numbers = &black_box(&mut self.numbers)[..];
+        let (before, after) = (&numbers[..GUARD], &numbers[numbers.len() - GUARD..]);
+        let lent = &numbers[GUARD..numbers.len() - GUARD];
+        before == guard
+            && after == guard
+            && lent[..len].iter().copied().eq(rows)
+            && lent[len..].iter().all(|&number| number == 0)
+    }
+}
+
+/// A small file in hexadecimal.
+pub fn dump(file: &[u8]) -> String {
+    if file.len() > 8192 {
+        return format!("a file of {} bytes", file.len());
+    }
+    let lines = file.chunks(32).enumerate();
+    lines.map(|(i, line)| format!("{:5} {}\n", 32 * i, line.iter().map(hex).collect::<String>())).collect()
+}
+
+fn hex(byte: &u8) -> String {
+    format!("{byte:02x}")
+}

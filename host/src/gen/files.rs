@@ -1,0 +1,509 @@
+//! Whole files: a plan of pieces, and the bytes that it gives. A random plan gives a valid file.
+
+use super::{string_length, RawKey, Rng};
+use crate::model::audit::{part, Row, BEGIN, FREE_END};
+
+/// What a piece is for. A directory is named by its index in the plan; the head is 0.
+#[derive(Clone, Copy, Debug, PartialEq, Eq)]
+pub enum Role {
+    Gap,
+    Head,
+    Free,
+    Info,
+    Keys { of: usize },
+    Object,
+    Dir { parent: usize },
+    Loose,
+}
+
+/// A piece of a plan. Offsets and sizes in its key are worked out when the file is built.
+#[derive(Clone, Debug)]
+pub struct Item {
+    pub role: Role,
+    pub key: RawKey,
+    /// The directory whose place is SeekPdir; none keeps the key's.
+    pub pdir: Option<usize>,
+    /// KeyLen above the sum.
+    pub more: usize,
+    /// Keeps the key's ObjLen.
+    pub packed: bool,
+    /// The head's name and title, each with its length byte.
+    pub names: Vec<u8>,
+    /// Version of a directory header or of each free segment, and a directory's dates.
+    pub version: u16,
+    pub dates: [u32; 2],
+    /// The keys list of a directory.
+    pub list: Option<usize>,
+    /// What a keys list copies.
+    pub copies: Vec<usize>,
+    /// The data, or what follows those that are worked out.
+    pub data: Vec<u8>,
+    /// How many bytes are then dropped from the end.
+    pub cut: usize,
+}
+
+impl Item {
+    pub fn new(rng: &mut Rng, role: Role, class: &str, name: &str) -> Self {
+        let title = string_length(rng) / 8;
+        let strings = [class.as_bytes().to_vec(), name.as_bytes().to_vec(), rng.bytes(title)];
+        let key = RawKey {
+            nbytes: 0,
+            version: rng.pick(&[1, 2, 4, 999, 1000]),
+            objlen: 0,
+            datime: rng.u32(),
+            keylen: 0,
+            cycle: rng.pick(&[1, 1, 1, 2, 3, 0xffff]),
+            seek_key: 0,
+            seek_pdir: rng.pick(&[0, 100, 101, u32::MAX]),
+            strings,
+        };
+        Item {
+            role,
+            key,
+            pdir: None,
+            more: 0,
+            packed: false,
+            names: Vec::new(),
+            version: rng.pick(&[0, 1, 5, 0x0101, 1000]),
+            dates: [rng.u32(), rng.u32()],
+            list: None,
+            copies: Vec::new(),
+            data: Vec::new(),
+            cut: 0,
+        }
+    }
+
+    /// Its KeyLen.
+    pub fn keylen(&self) -> usize {
+        self.key.sum() + self.more
+    }
+}
+
+/// A length byte and as many bytes.
+pub fn counted(bytes: &[u8]) -> Vec<u8> {
+    [&[bytes.len() as u8], bytes].concat()
+}
+
+/// The pieces of a file, and the order in which they stand in it.
+#[derive(Clone, Debug, Default)]
+pub struct Plan {
+    pub items: Vec<Item>,
+    pub order: Vec<usize>,
+    /// Version and Compress of the file header, and what fills the bytes that are not read.
+    pub version: u32,
+    pub compress: u32,
+    pub rest: u8,
+}
+
+/// Where a piece of a built file stands.
+#[derive(Clone, Debug, Default)]
+pub struct Site {
+    pub start: usize,
+    pub size: usize,
+    pub keylen: usize,
+    /// Its directory header.
+    pub directory: usize,
+    /// NKeys and the copies of a keys list.
+    pub nkeys: usize,
+    pub copies: Vec<usize>,
+}
+
+/// A file, and where each piece of its plan stands.
+#[derive(Clone, Debug)]
+pub struct Built {
+    pub bytes: Vec<u8>,
+    pub sites: Vec<Site>,
+}
+
+impl Plan {
+    /// Adds a piece at the end: its index.
+    pub fn add(&mut self, item: Item) -> usize {
+        self.items.push(item);
+        self.order.push(self.items.len() - 1);
+        self.items.len() - 1
+    }
+
+    /// The first piece with this role.
+    pub fn find(&self, role: Role) -> Option<usize> {
+        self.items.iter().position(|item| item.role == role)
+    }
+
+    /// Adds a listed piece to the keys list of the directory `by`.
+    pub fn list(&mut self, by: usize, index: usize) {
+        self.items[index].pdir = Some(by);
+        let list = self.items[by].list.expect("the directory has a keys list");
+        self.items[list].copies.push(index);
+    }
+
+    /// Whether the parents of a directory lead to the head.
+    pub fn in_reach(&self, dir: usize) -> bool {
+        let mut at = dir;
+        for _ in &self.items {
+            match self.items[at].role {
+                Role::Dir { parent } => at = parent,
+                _ => break,
+            }
+        }
+        at == 0
+    }
+
+    /// The rows that the audit of a valid file gives.
+    pub fn rows(&self, built: &Built) -> Vec<Row> {
+        let row = |&index: &usize| {
+            let item = &self.items[index];
+            let (part, owner) = match item.role {
+                Role::Gap => (part::GAP, None),
+                Role::Head => (part::HEAD, None),
+                Role::Free => (part::FREE, None),
+                Role::Info => (part::INFO, None),
+                Role::Keys { of } => (part::KEYS, Some(of)),
+                Role::Object => (part::LISTED, item.pdir),
+                Role::Dir { parent } => (part::DIR, Some(parent)),
+                Role::Loose => (part::UNLISTED, None),
+            };
+            let start = built.sites[index].start as u32;
+            match owner {
+                None => Row { start, part, owner: 0 },
+                Some(owner) if self.in_reach(owner) => Row { start, part, owner: built.sites[owner].start as u32 },
+                Some(_) => Row { start, part: part::UNLISTED, owner: 0 },
+            }
+        };
+        self.order.iter().map(row).collect()
+    }
+
+    pub fn build(&self) -> Built {
+        // Lengths do not depend on where a piece stands: the first round only finds them.
+        let mut sites = vec![Site::default(); self.items.len()];
+        for _ in 0..2 {
+            let sizes: Vec<usize> = (0..self.items.len()).map(|index| self.piece(index, &sites).len()).collect();
+            let mut start = BEGIN;
+            for &index in &self.order {
+                sites[index] = self.site(index, start, sizes[index]);
+                start += sizes[index];
+            }
+        }
+        let pieces = self.order.iter().flat_map(|&index| self.piece(index, &sites));
+        let mut bytes = self.header(&sites);
+        bytes.extend(pieces);
+        let end = bytes.len() as u32;
+        bytes[12..16].copy_from_slice(&end.to_be_bytes());
+        Built { bytes, sites }
+    }
+
+    fn site(&self, index: usize, start: usize, size: usize) -> Site {
+        let item = &self.items[index];
+        let keylen = item.keylen();
+        let directory = start + keylen + item.names.len();
+        let nkeys = start + keylen;
+        let mut copies = Vec::new();
+        let mut at = nkeys + 4;
+        for &copy in &item.copies {
+            copies.push(at);
+            at += self.items[copy].key.sum();
+        }
+        Site { start, size, keylen, directory, nkeys, copies }
+    }
+
+    /// The first 100 bytes, but for END.
+    fn header(&self, sites: &[Site]) -> Vec<u8> {
+        let [free, info] = [Role::Free, Role::Info].map(|role| self.find(role).map(|index| &sites[index]));
+        let pair = |site: Option<&Site>| site.map_or([0; 2], |site| [site.start, site.size].map(|n| n as u32));
+        let [seek_free, nbytes_free] = pair(free);
+        let [seek_info, nbytes_info] = pair(info);
+        let nfree = free.map_or(0, |site| (site.size - site.keylen) / 10);
+        let named = self.items[0].keylen() + self.items[0].names.len();
+        let mut bytes = b"root".to_vec();
+        let numbers = [self.version, BEGIN as u32, 0, seek_free, nbytes_free, nfree as u32, named as u32];
+        bytes.extend(numbers.iter().flat_map(|number| number.to_be_bytes()));
+        bytes.push(4);
+        bytes.extend([self.compress, seek_info, nbytes_info].iter().flat_map(|number| number.to_be_bytes()));
+        bytes.resize(BEGIN, self.rest);
+        bytes
+    }
+
+    /// The key of a record where `sites` say that it stands.
+    fn key(&self, index: usize, sites: &[Site]) -> RawKey {
+        let item = &self.items[index];
+        let mut key = item.key.clone();
+        let site = &sites[index];
+        key.nbytes = site.size as u32;
+        key.keylen = item.keylen() as u16;
+        key.seek_key = site.start as u32;
+        if !item.packed {
+            key.objlen = key.nbytes.saturating_sub(key.keylen.into());
+        }
+        if let Some(pdir) = item.pdir {
+            key.seek_pdir = sites[pdir].start as u32;
+        }
+        key
+    }
+
+    fn piece(&self, index: usize, sites: &[Site]) -> Vec<u8> {
+        let item = &self.items[index];
+        let mut bytes = match item.role {
+            Role::Gap => (-(4 + item.data.len() as i32)).to_be_bytes().to_vec(),
+            _ => self.key(index, sites).header(),
+        };
+        bytes.extend(vec![0x2e; item.more]);
+        bytes.extend(&item.names);
+        match item.role {
+            Role::Head => bytes.extend(self.directory(index, 0, sites)),
+            Role::Dir { parent } => bytes.extend(self.directory(index, sites[parent].start as u32, sites)),
+            Role::Keys { .. } => {
+                bytes.extend((item.copies.len() as u32).to_be_bytes());
+                bytes.extend(item.copies.iter().flat_map(|&copy| self.key(copy, sites).header()));
+            }
+            Role::Free => bytes.extend(self.segments(item.version, sites)),
+            _ => {}
+        }
+        bytes.extend(&item.data);
+        bytes.truncate(bytes.len().saturating_sub(item.cut));
+        bytes
+    }
+
+    fn directory(&self, index: usize, parent: u32, sites: &[Site]) -> Vec<u8> {
+        let item = &self.items[index];
+        let [seek_keys, nbytes_keys] = item.list.map_or([0; 2], |list| [sites[list].start, sites[list].size]);
+        let named = item.keylen() + item.names.len();
+        let numbers = [nbytes_keys as u32, named as u32, sites[index].start as u32, parent, seek_keys as u32];
+        let mut bytes = item.version.to_be_bytes().to_vec();
+        bytes.extend(item.dates.iter().chain(&numbers).flat_map(|number| number.to_be_bytes()));
+        bytes
+    }
+
+    fn segments(&self, version: u16, sites: &[Site]) -> Vec<u8> {
+        let gaps = self.order.iter().filter(|&&index| self.items[index].role == Role::Gap);
+        let mut segments: Vec<[usize; 2]> =
+            gaps.map(|&gap| [sites[gap].start, sites[gap].start + sites[gap].size]).collect();
+        let end = BEGIN + sites.iter().map(|site| site.size).sum::<usize>();
+        segments.push([end, FREE_END as usize]);
+        segments.iter().flat_map(|segment| segment_bytes(version, segment.map(|n| n as u32))).collect()
+    }
+}
+
+pub fn segment_bytes(version: u16, [first, last]: [u32; 2]) -> Vec<u8> {
+    [&version.to_be_bytes()[..], &first.to_be_bytes(), &last.to_be_bytes()].concat()
+}
+
+/// How many of each there may be in a random plan.
+#[derive(Clone, Copy, Debug)]
+pub struct Size {
+    pub dirs: usize,
+    pub objects: usize,
+    pub gaps: usize,
+    pub loose: usize,
+    /// At least one of each, two gaps, a subdirectory that lists an object, and an info record.
+    pub rich: bool,
+}
+
+pub const SMALL: Size = Size { dirs: 3, objects: 5, gaps: 4, loose: 3, rich: false };
+pub const RICH: Size = Size { rich: true, ..SMALL };
+pub const LARGE: Size = Size { dirs: 60, objects: 4000, gaps: 300, loose: 300, rich: true };
+
+const CLASSES: [&str; 8] = ["TObjString", "TH1F", "TFile", "TDirectoryFile", "TList", "TDirector", "", "TTree"];
+const NAMES: [&str; 6] = ["x", "hist", "StreamerInfo", "", "a", "a longer name; with more"];
+
+/// A random plan of a valid file, in any order after the head.
+pub fn plan(rng: &mut Rng, size: Size) -> Plan {
+    let version = rng.pick(&[0, 30206, 62400, 999_999]);
+    let mut plan = Plan { version, compress: rng.u32(), rest: rng.u64() as u8, ..Plan::default() };
+    let least = usize::from(size.rich);
+    let some = |rng: &mut Rng, least: usize, most: usize| least + rng.below(most + 1 - least);
+    head(rng, &mut plan);
+    let mut dirs = vec![0];
+    for _ in 0..some(rng, least, size.dirs) {
+        let parent = rng.pick(&dirs);
+        dirs.push(directory(rng, &mut plan, parent));
+    }
+    give_lists(rng, &mut plan, &dirs, size.rich);
+    for nth in 0..some(rng, 2 * least, size.objects) {
+        let by = if nth < 2 * least { dirs[nth] } else { rng.pick(&dirs) };
+        object(rng, &mut plan, by);
+    }
+    for _ in 0..some(rng, 2 * least, size.gaps) {
+        let mut gap = Item::new(rng, Role::Gap, "", "");
+        let len = rng.pick(&[0, 0, 1, 8, 25, 60]);
+        gap.data = rng.bytes(len);
+        plan.add(gap);
+    }
+    for _ in 0..some(rng, least, size.loose) {
+        loose(rng, &mut plan);
+    }
+    if rng.once_in(4) {
+        out_of_reach(rng, &mut plan);
+    }
+    if size.rich || rng.once_in(2) {
+        info(rng, &mut plan);
+    }
+    plan.add(Item::new(rng, Role::Free, "TFile", "a"));
+    shuffle(rng, &mut plan.order[1..]);
+    plan
+}
+
+/// A plan of a valid file of exactly `pieces` pieces, at least 300, with `subdirs` subdirectories. In
+/// any order after the head, or in the order of the lists.
+pub fn plan_of(rng: &mut Rng, pieces: usize, subdirs: usize, any_order: bool) -> Plan {
+    let mut plan = Plan { version: 62400, ..Plan::default() };
+    head(rng, &mut plan);
+    let mut dirs = vec![0];
+    for _ in 0..subdirs {
+        let parent = rng.pick(&dirs);
+        dirs.push(directory(rng, &mut plan, parent));
+    }
+    give_lists(rng, &mut plan, &dirs, true);
+    for _ in 0..pieces / 20 {
+        plan.add(Item::new(rng, Role::Gap, "", ""));
+        loose(rng, &mut plan);
+    }
+    info(rng, &mut plan);
+    while plan.items.len() + 1 < pieces {
+        let by = dirs[plan.items.len() * dirs.len() / pieces];
+        object(rng, &mut plan, by);
+    }
+    plan.add(Item::new(rng, Role::Free, "TFile", "a"));
+    if any_order {
+        shuffle(rng, &mut plan.order[1..]);
+    }
+    plan
+}
+
+/// A plan of a valid file whose directories each list one more, `depth` of them.
+pub fn deep_plan(rng: &mut Rng, depth: usize) -> Plan {
+    let mut plan = Plan { version: 62400, ..Plan::default() };
+    head(rng, &mut plan);
+    let mut dirs = vec![0];
+    for parent in 0..depth {
+        dirs.push(directory(rng, &mut plan, parent));
+    }
+    give_lists(rng, &mut plan, &dirs, false);
+    plan.add(Item::new(rng, Role::Free, "TFile", "a"));
+    plan
+}
+
+fn shuffle(rng: &mut Rng, items: &mut [usize]) {
+    for i in (1..items.len()).rev() {
+        items.swap(i, rng.below(i + 1));
+    }
+}
+
+fn head(rng: &mut Rng, plan: &mut Plan) {
+    let mut head = Item::new(rng, Role::Head, "TFile", "a");
+    let [name, title] = [string_length(rng), string_length(rng) / 8];
+    head.names = [counted(&rng.bytes(name)), counted(&rng.bytes(title))].concat();
+    let tail = rng.pick(&[0, 0, 18, 30]);
+    head.data = rng.bytes(tail);
+    plan.add(head);
+}
+
+/// A directory that is listed by another as soon as that has a list.
+fn directory(rng: &mut Rng, plan: &mut Plan, parent: usize) -> usize {
+    let name = rng.pick(&NAMES);
+    let mut item = Item::new(rng, Role::Dir { parent }, "TDirectory", name);
+    item.pdir = Some(parent);
+    let tail = rng.pick(&[0, 0, 18, 30]);
+    item.data = rng.bytes(tail);
+    plan.add(item)
+}
+
+/// A keys list for each directory that needs one, and for some that have nothing to list.
+fn give_lists(rng: &mut Rng, plan: &mut Plan, dirs: &[usize], all: bool) {
+    for &dir in dirs {
+        let needed = plan.items.iter().any(|item| item.role == (Role::Dir { parent: dir }));
+        if all || needed || rng.once_in(2) {
+            keys(rng, plan, dir);
+        }
+    }
+    for &dir in &dirs[1..] {
+        if let Role::Dir { parent } = plan.items[dir].role {
+            plan.list(parent, dir);
+        }
+    }
+}
+
+/// An empty keys list of a directory.
+pub fn keys(rng: &mut Rng, plan: &mut Plan, of: usize) -> usize {
+    let class = rng.pick(&["TFile", "TDirectory"]);
+    let mut item = Item::new(rng, Role::Keys { of }, class, "a");
+    item.pdir = Some(of);
+    let list = plan.add(item);
+    plan.items[of].list = Some(list);
+    list
+}
+
+/// An object, listed by `by`, or by nobody if that has no list.
+fn object(rng: &mut Rng, plan: &mut Plan, by: usize) {
+    let (class, name) = (rng.pick(&CLASSES), rng.pick(&NAMES));
+    let mut item = Item::new(rng, Role::Object, class, name);
+    let len = rng.pick(&[0, 1, 10, 40]);
+    item.data = rng.bytes(len);
+    item.packed = rng.once_in(2);
+    item.key.objlen = rng.u32() >> 1;
+    let index = plan.add(item);
+    if plan.items[by].list.is_some() {
+        plan.list(by, index);
+    } else {
+        plan.items[index].role = Role::Loose;
+    }
+}
+
+/// A record that nobody lists: a basket, or one whose class would mean more if it were listed.
+fn loose(rng: &mut Rng, plan: &mut Plan) {
+    let class = rng.pick(&["TBasket", "TFile", "TDirectory", "TList", "TObjString"]);
+    let name = rng.pick(&NAMES);
+    let mut item = Item::new(rng, Role::Loose, class, name);
+    item.more = rng.pick(&[0, 0, 1, 19]);
+    let len = rng.pick(&[0, 4, 30, 50]);
+    item.data = rng.bytes(len);
+    item.packed = rng.once_in(2);
+    item.key.objlen = rng.u32() >> 1;
+    plan.add(item);
+}
+
+/// One directory that lists itself, or two that list each other, with lists and all.
+fn out_of_reach(rng: &mut Rng, plan: &mut Plan) {
+    let one = plan.items.len();
+    let count = 1 + rng.below(2);
+    for nth in 0..count {
+        directory(rng, plan, one + (nth + 1) % count);
+    }
+    for dir in one..one + count {
+        keys(rng, plan, dir);
+    }
+    for dir in one..one + count {
+        plan.list(one + (dir - one + 1) % count, dir);
+        object(rng, plan, dir);
+    }
+}
+
+fn info(rng: &mut Rng, plan: &mut Plan) {
+    let mut item = Item::new(rng, Role::Info, "TList", "StreamerInfo");
+    let len = rng.below(60);
+    item.data = rng.bytes(len);
+    item.packed = rng.once_in(2);
+    item.key.objlen = rng.u32() >> 1;
+    plan.add(item);
+}
+
+/// The plan of the project's small file, as `one_root` lays it down.
+pub fn one_root_plan() -> Plan {
+    let mut rng = Rng::new(0);
+    let mut plan = Plan { version: 62400, compress: 1, ..Plan::default() };
+    let mut add = |role: Role, class: &str, pdir: Option<usize>, data: Vec<u8>| {
+        let mut item = Item::new(&mut rng, role, class, if role == Role::Object { "x" } else { "a" });
+        let datime = 1_960_757_165;
+        item.key = RawKey { version: 4, datime, cycle: 1, seek_pdir: 0, ..item.key };
+        item.key.strings[2].clear();
+        (item.version, item.dates, item.pdir, item.data) = (5, [datime; 2], pdir, data);
+        plan.add(item)
+    };
+    let head = add(Role::Head, "TFile", None, Vec::new());
+    let x = add(Role::Object, "TObjString", Some(head), vec![7; 10]);
+    let list = add(Role::Keys { of: head }, "TFile", Some(head), Vec::new());
+    add(Role::Gap, "", None, vec![0; 8]);
+    let free = add(Role::Free, "TFile", Some(head), Vec::new());
+    plan.items[free].version = 1;
+    plan.items[head].names = b"\x01a\x00".to_vec();
+    plan.items[head].list = Some(list);
+    plan.list(head, x);
+    plan
+}

@@ -1,0 +1,292 @@
+//! StreamerInfo records: a plan of classes and elements, and the bytes that it gives, with each field
+//! known by what it is.
+
+use super::{string_length, RawKey, Rng};
+use crate::model::streamer::{Row, ARRAY, CLASS_MASK, COUNT_MASK, INFO, KINDS, NEW_CLASS, REFERENCED};
+use std::collections::HashMap;
+
+/// One element of a class.
+#[derive(Clone, Debug)]
+pub struct Element {
+    /// 1 to 10.
+    pub kind: usize,
+    /// Name, title, type name, and two more that some kinds have.
+    pub strings: [Vec<u8>; 5],
+    /// fType, fSize, fArrayLength, fArrayDim and fMaxIndex.
+    pub numbers: [u32; 9],
+    /// What follows in some kinds.
+    pub own: [u32; 2],
+}
+
+/// One class: its name, title and elements.
+#[derive(Clone, Debug)]
+pub struct Class {
+    pub strings: [Vec<u8>; 2],
+    pub elements: Vec<Element>,
+}
+
+/// What a field is.
+#[derive(Clone, Copy, Debug, PartialEq, Eq)]
+pub enum What {
+    ByteCount,
+    Tag(&'static str),
+    /// A reference to the tag of a class.
+    Reference(&'static str),
+    Version,
+    /// The last number of a TObject.
+    Bits,
+    /// The name of the list or of an array.
+    NoName,
+    String,
+    /// How many objects follow, before an array's lower bound.
+    Objects,
+    LowerBound,
+    Number,
+}
+
+/// Where a field stands in the record, and the innermost open end there.
+#[derive(Clone, Copy, Debug)]
+pub struct Field {
+    pub what: What,
+    pub at: usize,
+    pub len: usize,
+    pub end: usize,
+}
+
+/// A record, its fields in order, and its rows.
+#[derive(Clone, Debug)]
+pub struct Info {
+    pub bytes: Vec<u8>,
+    pub keylen: usize,
+    pub fields: Vec<Field>,
+    pub rows: Vec<Row>,
+}
+
+/// Other bytes for one field, by its index. Everything else is laid down to fit them.
+pub type Twist<'a> = Option<(usize, &'a [u8])>;
+
+/// Random strings and numbers for an element of this kind.
+pub fn element(rng: &mut Rng, kind: usize) -> Element {
+    let strings = [0; 5].map(|_| {
+        let len = string_length(rng);
+        rng.bytes(len)
+    });
+    Element { kind, strings, numbers: [0; 9].map(|_| rng.u32()), own: [rng.u32(), rng.u32()] }
+}
+
+/// A class with elements of these kinds.
+pub fn class(rng: &mut Rng, kinds: &[usize]) -> Class {
+    let strings = [0; 2].map(|_| {
+        let len = string_length(rng);
+        rng.bytes(len)
+    });
+    Class { strings, elements: kinds.iter().map(|&kind| element(rng, kind)).collect() }
+}
+
+/// Up to four classes of up to six elements, of any kinds.
+pub fn classes(rng: &mut Rng) -> Vec<Class> {
+    (0..rng.below(5))
+        .map(|_| {
+            let kinds: Vec<usize> = (0..rng.below(7)).map(|_| 1 + rng.below(10)).collect();
+            class(rng, &kinds)
+        })
+        .collect()
+}
+
+/// Three classes with short strings: elements of all ten kinds, none, and some kinds again.
+pub fn all_kinds(rng: &mut Rng) -> Vec<Class> {
+    let mut classes =
+        vec![class(rng, &[1, 2, 3, 4, 5, 6, 7, 8, 9, 10]), class(rng, &[]), class(rng, &[7, 1, 10, 4, 9, 9])];
+    for class in &mut classes {
+        let elements = class.elements.iter_mut().flat_map(|element| &mut element.strings);
+        for string in elements.chain(&mut class.strings) {
+            string.truncate(3);
+        }
+    }
+    classes
+}
+
+/// The record at `at` of a file.
+pub fn build(rng: &mut Rng, at: u32, classes: &[Class], twist: Twist) -> Info {
+    let strings = ["TList", "StreamerInfo", "Doubly linked list"].map(|string| string.as_bytes().to_vec());
+    let mut key = RawKey {
+        nbytes: 0,
+        version: 4,
+        objlen: 0,
+        datime: rng.u32(),
+        keylen: 64,
+        cycle: 1,
+        seek_key: at,
+        seek_pdir: 100,
+        strings,
+    };
+    assert_eq!(key.sum(), 64);
+    let mut builder =
+        Builder { bytes: key.header(), fields: Vec::new(), rows: Vec::new(), tags: HashMap::new(), twist, noise: rng };
+    builder.list(classes);
+    let Builder { mut bytes, mut fields, rows, .. } = builder;
+    for field in &mut fields {
+        field.end = field.end.min(bytes.len());
+    }
+    key.nbytes = bytes.len() as u32;
+    key.objlen = key.nbytes - 64;
+    bytes[..64].copy_from_slice(&key.header());
+    Info { bytes, keylen: 64, fields, rows }
+}
+
+struct Builder<'a> {
+    bytes: Vec<u8>,
+    fields: Vec<Field>,
+    rows: Vec<Row>,
+    /// Where the tag of each class stands.
+    tags: HashMap<&'static str, usize>,
+    twist: Twist<'a>,
+    /// For values that are not tested.
+    noise: &'a mut Rng,
+}
+
+impl Builder<'_> {
+    /// Lays down a field, or what stands in its place: where.
+    fn put(&mut self, what: What, bytes: &[u8]) -> usize {
+        let bytes = match self.twist {
+            Some((field, other)) if field == self.fields.len() => other,
+            _ => bytes,
+        };
+        let at = self.bytes.len();
+        self.fields.push(Field { what, at, len: bytes.len(), end: usize::MAX });
+        self.bytes.extend(bytes);
+        at
+    }
+
+    fn number(&mut self, what: What, number: u32) -> usize {
+        self.put(what, &number.to_be_bytes())
+    }
+
+    fn version(&mut self) {
+        let version = (self.noise.u64() as u16).to_be_bytes();
+        self.put(What::Version, &version);
+    }
+
+    fn string(&mut self, string: &[u8]) -> usize {
+        let bytes = [&[string.len() as u8], string].concat();
+        self.put(What::String, &bytes)
+    }
+
+    /// A ByteCount and what it counts.
+    fn object(&mut self, contents: impl FnOnce(&mut Self)) {
+        let twisted = matches!(self.twist, Some((field, _)) if field == self.fields.len());
+        let first = self.fields.len() + 1;
+        let at = self.number(What::ByteCount, 0);
+        let start = self.bytes.len();
+        contents(self);
+        let end = self.bytes.len();
+        for field in self.fields[first..].iter_mut().filter(|field| field.end == usize::MAX) {
+            field.end = end;
+        }
+        if !twisted {
+            let count = COUNT_MASK | (end - start) as u32;
+            self.bytes[at..at + 4].copy_from_slice(&count.to_be_bytes());
+        }
+    }
+
+    /// A TObject that is not referenced.
+    fn base(&mut self) {
+        self.version();
+        let id = self.noise.u32();
+        self.number(What::Number, id);
+        let bits = self.noise.u32() & !REFERENCED;
+        self.number(What::Bits, bits);
+    }
+
+    fn tagged(&mut self, class: &'static str, contents: impl FnOnce(&mut Self)) {
+        self.object(|builder| {
+            match builder.tags.get(class) {
+                Some(&tag) => drop(builder.number(What::Reference(class), CLASS_MASK | (tag as u32 + 2))),
+                None => {
+                    let bytes = [&NEW_CLASS.to_be_bytes(), class.as_bytes(), &[0]].concat();
+                    let at = builder.put(What::Tag(class), &bytes);
+                    builder.tags.insert(class, at);
+                }
+            }
+            builder.object(|builder| {
+                builder.version();
+                contents(builder);
+            });
+        });
+    }
+
+    /// A TNamed: where its name stands.
+    fn named(&mut self, name: &[u8], title: &[u8]) -> usize {
+        let mut at = 0;
+        self.object(|builder| {
+            builder.version();
+            builder.base();
+            at = builder.string(name);
+            builder.string(title);
+        });
+        at
+    }
+
+    fn list(&mut self, classes: &[Class]) {
+        self.object(|builder| {
+            builder.version();
+            builder.base();
+            builder.put(What::NoName, &[0]);
+            builder.number(What::Objects, classes.len() as u32);
+            for (index, class) in classes.iter().enumerate() {
+                builder.info(index as u32, class);
+            }
+        });
+    }
+
+    fn info(&mut self, index: u32, class: &Class) {
+        self.tagged(INFO, |builder| {
+            builder.named(&class.strings[0], &class.strings[1]);
+            builder.number(What::Number, 0x1234_5678);
+            builder.number(What::Number, 3);
+            builder.tagged(ARRAY, |builder| {
+                builder.base();
+                builder.put(What::NoName, &[0]);
+                builder.number(What::Objects, class.elements.len() as u32);
+                builder.number(What::LowerBound, 0);
+                for element in &class.elements {
+                    builder.element(index, element);
+                }
+            });
+        });
+    }
+
+    fn element(&mut self, index: u32, element: &Element) {
+        let [name, title, type_name, ..] = &element.strings;
+        self.tagged(KINDS[element.kind - 1], |builder| {
+            builder.object(|builder| {
+                builder.version();
+                let name_at = builder.named(name, title) as u32;
+                for number in element.numbers {
+                    builder.number(What::Number, number);
+                }
+                let type_name_at = builder.string(type_name) as u32;
+                let [ftype, _, array_length, ..] = element.numbers;
+                builder.rows.push([index, element.kind as u32, name_at, type_name_at, ftype, array_length]);
+            });
+            builder.own(element);
+        });
+    }
+
+    fn own(&mut self, element: &Element) {
+        let [.., count_name, count_class] = &element.strings;
+        match element.kind {
+            1 => drop(self.number(What::Number, element.own[0])),
+            4 | 7 => {
+                self.number(What::Number, element.own[0]);
+                self.string(count_name);
+                self.string(count_class);
+            }
+            9 => {
+                self.number(What::Number, element.own[0]);
+                self.number(What::Number, element.own[1]);
+            }
+            _ => {}
+        }
+    }
+}

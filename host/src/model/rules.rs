@@ -1,0 +1,321 @@
+//! The rules for a pass as statements over the bytes, the cut and a giving. They are checked for
+//! every set of directories that could be, without any order: slow, and for small files only.
+
+use super::audit::{part, Row};
+use std::collections::{HashMap, HashSet};
+
+/// Sets of more directories than this are not tried.
+const MOST_DIRECTORIES: usize = 12;
+
+/// Every giving that meets the rules, as rows. There should never be two.
+pub fn givings(file: &[u8]) -> Vec<Vec<Row>> {
+    let Some(cut) = header_holds(file).then(|| cut(file, 100)).flatten() else {
+        return Vec::new();
+    };
+    let mut rules = Rules { file, cut, lists: HashMap::new() };
+    if !(rules.head_holds() && rules.free_holds() && rules.info_holds()) {
+        return Vec::new();
+    }
+    rules.lists = rules.could_be_directories().map(|at| (at, rules.list(at))).collect();
+    let copied: HashSet<usize> =
+        rules.lists.values().flatten().flat_map(|(_, copies)| copies.iter().map(|copy| copy.seek_key)).collect();
+    // A directory other than the head is listed, so there is a copy of it.
+    let could_be: Vec<usize> = rules.could_be_directories().filter(|at| *at != 100 && copied.contains(at)).collect();
+    assert!(could_be.len() <= MOST_DIRECTORIES, "too many directories to try every set of them");
+    let with_head = subsets(&could_be).map(|set| [&[100], &set[..]].concat());
+    with_head.filter_map(|set| rules.giving(&set)).collect()
+}
+
+fn subsets(items: &[usize]) -> impl Iterator<Item = Vec<usize>> + '_ {
+    (0..1u32 << items.len()).map(|bits| (0..items.len()).filter(|&i| bits >> i & 1 == 1).map(|i| items[i]).collect())
+}
+
+/// The number of `width` bytes at `at`, if it ends at or before `end`.
+fn number(file: &[u8], at: usize, width: usize, end: usize) -> Option<usize> {
+    let fits = at + width <= end && end <= file.len();
+    fits.then(|| (at..at + width).fold(0, |number, i| number * 256 + usize::from(file[i])))
+}
+
+/// The string whose length byte is at `at`, and where it ends.
+fn string(file: &[u8], at: usize, end: usize) -> Option<(&[u8], usize)> {
+    let len = number(file, at, 1, end).filter(|&len| len < 255)?;
+    let next = at + 1 + len;
+    (next <= end).then(|| (&file[at + 1..next], next))
+}
+
+#[derive(Clone, Copy)]
+struct Key<'a> {
+    nbytes: usize,
+    keylen: usize,
+    plain: bool,
+    unpacked: bool,
+    seek_key: usize,
+    seek_pdir: usize,
+    class: &'a [u8],
+    name: &'a [u8],
+}
+
+/// The well-formed key header at `at`, read within `end`.
+fn key(file: &[u8], at: usize, end: usize) -> Option<Key<'_>> {
+    let field = |offset, width| number(file, at + offset, width, end);
+    let (class, next) = string(file, at + 26, end)?;
+    let (name, next) = string(file, next, end)?;
+    let (_, next) = string(file, next, end)?;
+    let sum = next - at;
+    let (nbytes, objlen, keylen) = (field(0, 4)?, field(6, 4)?, field(14, 2)?);
+    let (plain, unpacked) = (keylen == sum, objlen + keylen == nbytes);
+    let small = objlen < 1 << 31 && nbytes < 1 << 31 && (1..=1000).contains(&field(4, 2)?);
+    let (seek_key, seek_pdir) = (field(18, 4)?, field(22, 4)?);
+    let well_formed = small && sum <= keylen && keylen <= nbytes;
+    well_formed.then_some(Key { nbytes, keylen, plain, unpacked, seek_key, seek_pdir, class, name })
+}
+
+fn header_holds(file: &[u8]) -> bool {
+    let field = |at| number(file, at, 4, 100);
+    file.len() >= 100
+        && &file[..4] == b"root"
+        && field(4) < Some(1_000_000)
+        && file[32] == 4
+        && field(8) == Some(100)
+        && field(12) == Some(file.len())
+        && file.len() <= 1_999_999_999
+}
+
+/// Where the pieces start that fill the file from `at` on, and whether each is a record.
+fn cut(file: &[u8], at: usize) -> Option<Vec<(usize, bool)>> {
+    let mut pieces = Vec::new();
+    let mut at = at;
+    while at != file.len() {
+        let n = number(file, at, 4, file.len())?;
+        let is_record = n < 1 << 31;
+        let size = if is_record { n } else { (1 << 32) - n };
+        if size < 4 || at + size > file.len() {
+            return None;
+        }
+        if is_record && key(file, at, at + size)?.seek_key != at {
+            return None;
+        }
+        pieces.push((at, is_record));
+        at += size;
+    }
+    Some(pieces)
+}
+
+/// A directory header.
+struct Directory {
+    nbytes_keys: usize,
+    nbytes_name: usize,
+    seek_dir: usize,
+    seek_parent: usize,
+    seek_keys: usize,
+}
+
+fn directory(file: &[u8], at: usize, end: usize) -> Option<Directory> {
+    let field = |offset| number(file, at + offset, 4, end);
+    number(file, at, 2, end).filter(|&version| version <= 1000)?;
+    Some(Directory {
+        nbytes_keys: field(10)?,
+        nbytes_name: field(14)?,
+        seek_dir: field(18)?,
+        seek_parent: field(22)?,
+        seek_keys: field(26)?,
+    })
+}
+
+/// Where the keys list of a directory stands, or 0, and its copies.
+type List<'a> = (usize, Vec<Key<'a>>);
+
+struct Rules<'a> {
+    file: &'a [u8],
+    cut: Vec<(usize, bool)>,
+    /// For each record that could be a directory, its list if that and its copies keep their rules.
+    lists: HashMap<usize, Option<List<'a>>>,
+}
+
+impl<'a> Rules<'a> {
+    fn field(&self, at: usize) -> usize {
+        number(self.file, at, 4, self.file.len()).unwrap()
+    }
+
+    /// The key of the record of the cut at `at`.
+    fn record(&self, at: usize) -> Option<Key<'a>> {
+        self.cut.contains(&(at, true)).then(|| {
+            let end = at + number(self.file, at, 4, self.file.len()).unwrap();
+            key(self.file, at, end).unwrap()
+        })
+    }
+
+    /// The head, and the records of class TDirectory.
+    fn could_be_directories(&self) -> impl Iterator<Item = usize> + '_ {
+        let is_directory = |key: Key| key.class == b"TDirectory";
+        self.cut.iter().map(|&(at, _)| at).filter(move |&at| at == 100 || self.record(at).is_some_and(is_directory))
+    }
+
+    /// After the head's two strings.
+    fn after_names(&self) -> Option<usize> {
+        let head = self.record(100)?;
+        let (_, next) = string(self.file, 100 + head.keylen, 100 + head.nbytes)?;
+        let (_, next) = string(self.file, next, 100 + head.nbytes)?;
+        Some(next)
+    }
+
+    /// The header of the directory at `at`.
+    fn directory(&self, at: usize) -> Option<Directory> {
+        let key = self.record(at)?;
+        let start = if at == 100 { self.after_names()? } else { at + key.keylen };
+        directory(self.file, start, at + key.nbytes)
+    }
+
+    fn head_holds(&self) -> bool {
+        let (Some(key), Some(names), Some(directory)) = (self.record(100), self.after_names(), self.directory(100))
+        else {
+            return false;
+        };
+        key.plain
+            && key.unpacked
+            && key.class == b"TFile"
+            && directory.seek_dir == 100
+            && directory.seek_parent == 0
+            && directory.nbytes_name == names - 100
+            && self.field(28) == names - 100
+    }
+
+    fn free_holds(&self) -> bool {
+        let (seek_free, nfree) = (self.field(16), self.field(24));
+        let Some(key) = self.record(seek_free) else {
+            return false;
+        };
+        let data = &self.file[seek_free + key.keylen..seek_free + key.nbytes];
+        let segments: Vec<_> = data.chunks(10).collect();
+        let firsts_and_lasts: Vec<_> = segments.iter().map(|segment| segment.get(2..10)).collect();
+        let after = |i: usize| self.cut.get(i + 1).map_or(self.file.len(), |&(at, _)| at);
+        let gaps = self.cut.iter().enumerate().filter(|(_, (_, is_record))| !is_record);
+        let mut spaces: Vec<_> = gaps.map(|(i, &(at, _))| pair(at, after(i))).collect();
+        spaces.push(pair(self.file.len(), 2_000_000_000));
+        seek_free != 100
+            && key.plain
+            && key.unpacked
+            && key.class == b"TFile"
+            && key.nbytes == self.field(20)
+            && nfree >= 1
+            && data.len() == 10 * nfree
+            && segments.iter().all(|segment| number(segment, 0, 2, segment.len()) <= Some(1000))
+            && firsts_and_lasts == spaces.iter().map(|space| Some(&space[..])).collect::<Vec<_>>()
+    }
+
+    fn info_holds(&self) -> bool {
+        let (seek_info, nbytes_info) = (self.field(37), self.field(41));
+        let is_info =
+            |key: Key| key.plain && key.nbytes == nbytes_info && key.class == b"TList" && key.name == b"StreamerInfo";
+        (seek_info, nbytes_info) == (0, 0) || self.record(seek_info).is_some_and(is_info)
+    }
+
+    /// The giving whose directories are exactly `set`, if it meets the rules.
+    fn giving(&self, set: &[usize]) -> Option<Vec<Row>> {
+        let mut rows = Vec::new();
+        for &(at, is_record) in &self.cut {
+            let roles = self.roles(at, is_record, set)?;
+            if roles.len() > 1 {
+                return None;
+            }
+            let (part, owner) = roles.first().copied().unwrap_or((part::UNLISTED, 0));
+            rows.push(Row { start: at as u32, part, owner: owner as u32 });
+        }
+        let is_set = rows.iter().all(|row| {
+            let is_directory = row.part == part::HEAD || row.part == part::DIR;
+            is_directory == set.contains(&(row.start as usize))
+        });
+        let headers_hold = rows.iter().all(|row| row.part != part::DIR || self.subdirectory_holds(row));
+        let lead_home = rows.iter().all(|row| !is_listed(row) || leads_home(&rows, row));
+        (is_set && headers_hold && lead_home).then_some(rows)
+    }
+
+    /// Each part and owner that the piece at `at` has. None if a list or a copy breaks its rule.
+    fn roles(&self, at: usize, is_record: bool, set: &[usize]) -> Option<Vec<(u32, usize)>> {
+        let mut roles = Vec::new();
+        if !is_record {
+            roles.push((part::GAP, 0));
+        }
+        if at == 100 {
+            roles.push((part::HEAD, 0));
+        }
+        if at == self.field(16) {
+            roles.push((part::FREE, 0));
+        }
+        if at == self.field(37) {
+            roles.push((part::INFO, 0));
+        }
+        for &owner in set {
+            let (seek_keys, copies) = self.lists[&owner].as_ref()?;
+            if *seek_keys == at {
+                roles.push((part::KEYS, owner));
+            }
+            roles.extend(copies.iter().filter(|copy| copy.seek_key == at).map(|copy| {
+                let part = if copy.class == b"TDirectory" { part::DIR } else { part::LISTED };
+                (part, owner)
+            }));
+        }
+        Some(roles)
+    }
+
+    /// The list of the directory at `at`, if list and copies keep their rules.
+    fn list(&self, at: usize) -> Option<List<'a>> {
+        let directory = self.directory(at)?;
+        let list = directory.seek_keys;
+        if (list, directory.nbytes_keys) == (0, 0) {
+            return Some((0, Vec::new()));
+        }
+        let key_of_list = self.record(list)?;
+        let holds = key_of_list.plain
+            && key_of_list.unpacked
+            && key_of_list.nbytes == directory.nbytes_keys
+            && (key_of_list.class == b"TFile" || key_of_list.class == b"TDirectory")
+            && key_of_list.seek_pdir == at;
+        let (start, end) = (list + key_of_list.keylen, list + key_of_list.nbytes);
+        let nkeys = number(self.file, start, 4, end)?;
+        let mut copies = Vec::new();
+        let mut next = start + 4;
+        while copies.len() < nkeys {
+            let copy = key(self.file, next, end).filter(|copy| copy.plain)?;
+            let bytes = &self.file[next..next + copy.keylen];
+            self.record(copy.seek_key)?;
+            if !self.file[copy.seek_key..].starts_with(bytes) || copy.seek_pdir != at {
+                return None;
+            }
+            copies.push(copy);
+            next += copy.keylen;
+        }
+        (holds && next == end).then_some((list, copies))
+    }
+
+    fn subdirectory_holds(&self, row: &Row) -> bool {
+        let at = row.start as usize;
+        let (Some(key), Some(directory)) = (self.record(at), self.directory(at)) else {
+            return false;
+        };
+        key.unpacked
+            && directory.seek_dir == at
+            && directory.seek_parent == row.owner as usize
+            && directory.nbytes_name == key.keylen
+    }
+}
+
+fn pair(first: usize, last: usize) -> Vec<u8> {
+    [first as u32, last as u32].map(u32::to_be_bytes).concat()
+}
+
+fn is_listed(row: &Row) -> bool {
+    row.part == part::LISTED || row.part == part::DIR
+}
+
+/// Whether taking the owner again and again arrives at 100.
+fn leads_home(rows: &[Row], row: &Row) -> bool {
+    let mut at = row.owner;
+    for _ in rows {
+        at = match rows.iter().find(|row| row.start == at) {
+            Some(row) if row.start != 100 => row.owner,
+            _ => break,
+        };
+    }
+    at == 100
+}

@@ -1,0 +1,46 @@
+//! The second audit of a whole file against the rules, which are tried on every set of directories:
+//! a file passes exactly if one giving of parts and owners meets the rules, and its rows are that one.
+
+use kirovadzun_host::compare::Tally;
+use kirovadzun_host::gen::files::{plan, SMALL};
+use kirovadzun_host::gen::{damage, one_root, Rng};
+use kirovadzun_host::model::audit::{audit, pieces};
+use kirovadzun_host::model::rules;
+
+fn agree(tally: &mut Tally, file: &[u8]) {
+    let (answer, rows) = audit(file, pieces(file).unwrap_or(3));
+    let givings = rules::givings(file);
+    let expected = if answer.number == 0 { vec![rows] } else { Vec::new() };
+    assert!(givings == expected, "{answer:?} rules {givings:?}");
+    tally.add(answer.number);
+}
+
+#[test]
+fn each_byte_of_one_root() {
+    let mut tally = Tally::new("second audit, one.root");
+    let file = one_root();
+    agree(&mut tally, &file);
+    for at in 0..file.len() {
+        for change in [1, 0x80, 0xff] {
+            let mut changed = file.clone();
+            changed[at] ^= change;
+            agree(&mut tally, &changed);
+        }
+    }
+    tally.finish(1_000, &[0, 2, 3, 4, 5, 6, 8, 9, 10, 12, 13]);
+}
+
+#[test]
+fn random_files() {
+    let mut tally = Tally::new("second audit, random files, whole and damaged");
+    let mut rng = Rng::new(7);
+    for _ in 0..3_000 {
+        let built = plan(&mut rng, SMALL).build();
+        agree(&mut tally, &built.bytes);
+        let mut damaged = built.bytes;
+        let at = rng.below(damaged.len());
+        damage(&mut rng, &mut damaged, at);
+        agree(&mut tally, &damaged);
+    }
+    tally.finish(6_000, &[0]);
+}
