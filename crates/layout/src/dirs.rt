@@ -26,7 +26,7 @@ pub enum Dir {
 }
 
 // The directory header at a place, if it lies before end and its version is at most 1000.
-pub fn read_dir(s: &[u8], at: usize, end: usize) -> Dir
+pub(crate) fn read_dir(s: &[u8], at: usize, end: usize) -> Dir
     ensures { λ r. ⌜ r ≡ dirIn (now (s .entry)) at end ⌝ }
 {
     if s.len() < end {
@@ -51,7 +51,7 @@ pub fn read_dir(s: &[u8], at: usize, end: usize) -> Dir
 }
 
 // Whether KeyLen is the sum.
-pub fn is_plain(k: Key) -> bool
+pub(crate) fn is_plain(k: Key) -> bool
     ensures { λ r. ⌜ r ≡ all (plain k) ⌝ }
 {
     let class = k.class;
@@ -73,7 +73,7 @@ pub fn is_plain(k: Key) -> bool
 }
 
 // Whether the data is not packed.
-pub fn is_unpacked(k: Key) -> bool
+pub(crate) fn is_unpacked(k: Key) -> bool
     ensures { λ r. ⌜ r ≡ all (unpackedData k) ⌝ }
 {
     k.objlen as u64 + k.keylen as u64 == k.nbytes as u64

@@ -5,7 +5,7 @@ ghost use Rattle.layout.specs.Name.{eqBytes, sameBytes, named, tFile, tD
 use wire::text::Text;
 
 // Whether two slices hold the same bytes.
-pub fn same(a: &[u8], b: &[u8]) -> bool
+pub(crate) fn same(a: &[u8], b: &[u8]) -> bool
     ensures { λ r. ⌜ r ≡ eqBytes (now (a .entry)) (now (b .entry)) ⌝ }
 {
     if a.len() != b.len() {
@@ -52,7 +52,7 @@ fn is_name(s: &[u8], t: Text, name: &[u8]) -> bool
     same(&s[start..start + len], name)
 }
 
-pub fn is_file(s: &[u8], t: Text) -> bool
+pub(crate) fn is_file(s: &[u8], t: Text) -> bool
     ensures { λ r. ⌜ r ≡ named (now (s .entry)) t tFile ⌝ }
 {
     is_name(s, t, b"TFile")
@@ -64,13 +64,13 @@ pub fn is_directory(s: &[u8], t: Text) -> bool
     is_name(s, t, b"TDirectory")
 }
 
-pub fn is_list(s: &[u8], t: Text) -> bool
+pub(crate) fn is_list(s: &[u8], t: Text) -> bool
     ensures { λ r. ⌜ r ≡ named (now (s .entry)) t tList ⌝ }
 {
     is_name(s, t, b"TList")
 }
 
-pub fn is_streamer_info(s: &[u8], t: Text) -> bool
+pub(crate) fn is_streamer_info(s: &[u8], t: Text) -> bool
     ensures { λ r. ⌜ r ≡ named (now (s .entry)) t streamerInfo ⌝ }
 {
     is_name(s, t, b"StreamerInfo")
