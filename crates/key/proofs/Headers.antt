@@ -1,7 +1,6 @@
 -- Key headers: what the reader answers, from facts.
 use Prim.Native.Nat.{ℕ, _+_, _<_, _≤_}
 use mathlib.Core.List.{List}
-use mathlib.Core.Logic.{⊎-elim}
 use mathlib.Core.Path.{_≡_, sym, ap, _∙_}
 use native.Mathlib.Omega.{arith}
 use lib.ListN.{length}
@@ -12,7 +11,7 @@ use Rattle.key.specs.declared.header.Key.{Key}
 use Rattle.key.specs.declared.header.Names.{Names}
 use Rattle.key.specs.declared.header.Named.the-variants.{Held, Cut}
 use Rattle.key.specs.declared.header.Header.the-variants.{Good, Bad}
-use Rattle.wire.proofs.Checks.{picked, not-picked, all-or}
+use Rattle.wire.proofs.Checks.{picked, not-picked, from-picked, from-not-picked}
 use Rattle.key.proofs.Names.{from-names, from-no-names}
 
 -- the strings end where the sum does
@@ -91,17 +90,8 @@ module _ (s : List ℕ) (p end : ℕ) where
   -- a header that was read
   pub from-good : {k : Key} → Good k ≡ headerIn s p end → (k ≡ keyAt s p) × All (headerFits s p end)
   unfolding headerIn
-  from-good {k} e =
-      ⊎-elim (λ (h : All (headerFits s p end)). let g = picked (headerFits s p end) (Good (keyAt s p)) Bad h in (cc, h))
-      (λ (h : All (headerFits s p end) → ⊥).
-      let g = not-picked (headerFits s p end) (Good (keyAt s p)) Bad h in
-      let z : _≡_ {A = ℕ} 0 1 = cc in
-      absurd (omega arith))
-      (all-or (headerFits s p end))
+  from-good {k} e = let f = from-picked (headerFits s p end) (Good (keyAt s p)) Bad e (λ i. let z : _≡_ {A = ℕ} 0 1 = cc in omega arith) in let g = f .0 in (cc, f .1)
 
   pub from-bad : Bad ≡ headerIn s p end → All (headerFits s p end) → ⊥
   unfolding headerIn
-  from-bad e h =
-      let g = picked (headerFits s p end) (Good (keyAt s p)) Bad h in
-      let z : _≡_ {A = ℕ} 0 1 = cc in
-      omega arith
+  from-bad e h = from-not-picked (headerFits s p end) (Good (keyAt s p)) Bad e (λ i. let z : _≡_ {A = ℕ} 0 1 = cc in omega arith) h

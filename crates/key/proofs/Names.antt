@@ -2,7 +2,6 @@
 use Prim.Native.Nat.{ℕ, _-_}
 use mathlib.Core.List.{List, [], _∷_}
 use mathlib.Core.Path.{_≡_, sym}
-use mathlib.Core.Logic.{⊎-elim}
 use native.Mathlib.Omega.{arith}
 use lib.ListN.{length}
 use Rattle.wire.specs.Check.{Check, le, lt, All}
@@ -13,7 +12,7 @@ use Rattle.wire.specs.declared.text.Found.the-variants.{Held, Cut}
 use Rattle.key.specs.declared.header.Names.{Names}
 use Rattle.key.specs.declared.header.Named.{Named}
 use Rattle.key.specs.declared.header.Named.the-variants as named
-use Rattle.wire.proofs.Checks.{picked, not-picked, all-or}
+use Rattle.wire.proofs.Checks.{picked, not-picked, from-picked, from-not-picked}
 use Rattle.wire.proofs.Texts.{from-held, from-cut}
 
 -- what three strings in a row meet
@@ -62,16 +61,10 @@ module _ (s : List ℕ) (p end : ℕ) where
   pub from-names : {n : Names} → named.Held n ≡ namesIn s p end → (n ≡ namesAt s p) × All (nameChecks s p end)
   unfolding namesIn
   from-names {n} e =
-      ⊎-elim (λ (h : All (nameChecks s p end)). let k = picked (nameChecks s p end) (named.Held (namesAt s p)) named.Cut h in (cc, h))
-      (λ (h : All (nameChecks s p end) → ⊥).
-      let k = not-picked (nameChecks s p end) (named.Held (namesAt s p)) named.Cut h in
-      let z : _≡_ {A = ℕ} 0 1 = cc in
-      absurd (omega arith))
-      (all-or (nameChecks s p end))
+      let f = from-picked (nameChecks s p end) (named.Held (namesAt s p)) named.Cut e (λ i. let z : _≡_ {A = ℕ} 0 1 = cc in omega arith) in
+      let g = f .0 in
+      (cc, f .1)
 
   pub from-no-names : named.Cut ≡ namesIn s p end → All (nameChecks s p end) → ⊥
   unfolding namesIn
-  from-no-names e h =
-      let k = picked (nameChecks s p end) (named.Held (namesAt s p)) named.Cut h in
-      let z : _≡_ {A = ℕ} 0 1 = cc in
-      omega arith
+  from-no-names e h = from-not-picked (nameChecks s p end) (named.Held (namesAt s p)) named.Cut e (λ i. let z : _≡_ {A = ℕ} 0 1 = cc in omega arith) h

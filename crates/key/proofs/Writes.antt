@@ -21,7 +21,7 @@ use Rattle.wire.specs.declared.number.Bits.the-variants as bits
 use Rattle.key.specs.declared.writer.Fields.{Fields}
 use Rattle.key.specs.declared.writer.Stored.{Stored}
 use Rattle.key.specs.declared.writer.Checked.the-variants.{Good, Bad}
-use Rattle.wire.proofs.Checks.{yes-all, not-all, picked, not-picked, all-or}
+use Rattle.wire.proofs.Checks.{yes-all, not-all, picked, not-picked, all-or, from-picked, from-not-picked}
 
 pub length-text : (t : List ℕ) → length (textBytes t) ≡ 1 + length t
 unfolding textBytes
@@ -74,20 +74,11 @@ module _ (f : Fields) (sum : ℕ) where
 
   pub from-bad : Bad ≡ storedIn f sum → All (fieldsFit f sum) → ⊥
   unfolding storedIn
-  from-bad e h =
-      let g = picked (fieldsFit f sum) (Good (storedOf f sum)) Bad h in
-      let z : _≡_ {A = ℕ} 0 1 = cc in
-      omega arith
+  from-bad e h = from-not-picked (fieldsFit f sum) (Good (storedOf f sum)) Bad e (λ i. let z : _≡_ {A = ℕ} 0 1 = cc in omega arith) h
 
   pub from-good : {n : Stored} → Good n ≡ storedIn f sum → (n ≡ storedOf f sum) × All (fieldsFit f sum)
   unfolding storedIn
-  from-good {n} e =
-      ⊎-elim (λ (h : All (fieldsFit f sum)). let g = picked (fieldsFit f sum) (Good (storedOf f sum)) Bad h in (cc, h))
-      (λ (h : All (fieldsFit f sum) → ⊥).
-      let g = not-picked (fieldsFit f sum) (Good (storedOf f sum)) Bad h in
-      let z : _≡_ {A = ℕ} 0 1 = cc in
-      absurd (omega arith))
-      (all-or (fieldsFit f sum))
+  from-good {n} e = let f′ = from-picked (fieldsFit f sum) (Good (storedOf f sum)) Bad e (λ i. let z : _≡_ {A = ℕ} 0 1 = cc in omega arith) in let g = f′ .0 in (cc, f′ .1)
 
 -- the writer's answer r and its buffer w at exit
 module _ (f : Fields) (class name title buf : List ℕ) where

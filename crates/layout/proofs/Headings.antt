@@ -2,7 +2,6 @@
 use Prim.Native.Nat.{ℕ, _+_, _<_}
 use mathlib.Core.Bool.{Bool, true, false, _&&_}
 use mathlib.Core.List.{List, [], _∷_}
-use mathlib.Core.Logic.{⊎-elim}
 use mathlib.Core.Path.{_≡_, refl, sym, ap, _∙_}
 use native.Mathlib.Omega.{arith}
 use lib.Dec.{eqb}
@@ -10,7 +9,7 @@ use Rattle.wire.specs.Check.{eq, all, All}
 use Rattle.wire.specs.Text.{textAt, textIn}
 use Rattle.wire.specs.declared.text.Text.{Text}
 use Rattle.wire.specs.declared.text.Found.the-variants as found
-use Rattle.wire.proofs.Checks.{picked, not-picked, all-or}
+use Rattle.wire.proofs.Checks.{picked, not-picked, from-picked, from-not-picked}
 use Rattle.wire.proofs.Texts.{from-held, from-cut}
 use Rattle.key.specs.declared.header.Key.{Key}
 use Rattle.key.specs.declared.piece.Piece.the-variants.{Record}
@@ -37,20 +36,11 @@ module _ (s : List ℕ) (p end : ℕ) where
 
   pub from-bad : Bad ≡ dirIn s p end → All (dirFits s p end) → ⊥
   unfolding dirIn
-  from-bad e h =
-      let g = picked (dirFits s p end) (Held (dirAt s p)) Bad h in
-      let z : _≡_ {A = ℕ} 0 1 = cc in
-      omega arith
+  from-bad e h = from-not-picked (dirFits s p end) (Held (dirAt s p)) Bad e (λ i. let z : _≡_ {A = ℕ} 0 1 = cc in omega arith) h
 
   pub from-dir : {d : DirHead} → Held d ≡ dirIn s p end → (d ≡ dirAt s p) × All (dirFits s p end)
   unfolding dirIn
-  from-dir {d} e =
-      ⊎-elim (λ (h : All (dirFits s p end)). let g = picked (dirFits s p end) (Held (dirAt s p)) Bad h in (cc, h))
-      (λ (h : All (dirFits s p end) → ⊥).
-      let g = not-picked (dirFits s p end) (Held (dirAt s p)) Bad h in
-      let z : _≡_ {A = ℕ} 0 1 = cc in
-      absurd (omega arith))
-      (all-or (dirFits s p end))
+  from-dir {d} e = let f = from-picked (dirFits s p end) (Held (dirAt s p)) Bad e (λ i. let z : _≡_ {A = ℕ} 0 1 = cc in omega arith) in let g = f .0 in (cc, f .1)
 
 -- the head's directory header, after a name and a title
 module _ (s : List ℕ) (p end n : ℕ) where

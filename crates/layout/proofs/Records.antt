@@ -1,7 +1,6 @@
 -- The records that are pointed to: which answer, from facts.
 use Prim.Native.Nat.{ℕ, _+_, _≤_}
 use lib.ListN.{length}
-use mathlib.Core.Logic.{⊎-elim}
 use native.Mathlib.Omega.{arith}
 use Rattle.key.specs.Piece.{pieceAt}
 use Rattle.key.specs.declared.piece.Piece.{Piece}
@@ -13,7 +12,7 @@ use borrow.Author.Tests.{eq-eqb}
 use lib.Dec.{T}
 use Rattle.wire.specs.Check.{Check, all, All}
 use Rattle.wire.specs.declared.text.Text.{Text}
-use Rattle.wire.proofs.Checks.{yes-all, not-all, all-yes, picked, not-picked, all-or}
+use Rattle.wire.proofs.Checks.{yes-all, not-all, all-yes, picked, not-picked, from-picked}
 use Rattle.key.specs.Header.{sumOf, headerIn}
 use Rattle.key.specs.declared.header.Key.{Key}
 use Rattle.key.specs.declared.header.Header.the-variants.{Good, Bad}
@@ -99,18 +98,12 @@ module _ (s : List ℕ) (p end : ℕ) where
 -- the data of a free list lies in the file
 data-lies : (s : List ℕ) (p n : ℕ) (r : Piece) {a end : ℕ} → pieceAt s p ≡ r → held.Held a end ≡ freeOf s p n r → (a ≤ end) × (end ≤ length s)
 data-lies s p n (Record k) {a} {end} i e =
-    ⊎-elim
-    (λ (h : All (freeFits s k n)).
-    let g = rw (picked (freeFits s k n) (held.Held (p + k .keylen) (p + k .nbytes)) held.Bad h) at e in
+    let f = from-picked (freeFits s k n) (held.Held (p + k .keylen) (p + k .nbytes)) held.Bad e (λ i. let z : _≡_ {A = ℕ} 0 1 = cc in omega arith) in
+    let g = f .0 in
     let l = record-there s p i in
     let x : a ≡ p + k .keylen = cc in
     let y : end ≡ p + k .nbytes = cc in
-    (omega arith, omega arith))
-    (λ (h : All (freeFits s k n) → ⊥).
-    let g = rw (not-picked (freeFits s k n) (held.Held (p + k .keylen) (p + k .nbytes)) held.Bad h) at e in
-    let z : _≡_ {A = ℕ} 0 1 = cc in
-    absurd (omega arith))
-    (all-or (freeFits s k n))
+    (omega arith, omega arith)
 data-lies s p n (Gap m) i e = let z : _≡_ {A = ℕ} 0 1 = cc in absurd (omega arith)
 data-lies s p n (Refused c q) i e = let z : _≡_ {A = ℕ} 0 1 = cc in absurd (omega arith)
 

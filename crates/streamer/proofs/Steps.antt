@@ -14,7 +14,7 @@ use Rattle.wire.specs.Text.{textAt, textIn}
 use Rattle.wire.specs.declared.text.Text.{Text}
 use Rattle.wire.specs.declared.text.Found.{Found}
 use Rattle.wire.specs.declared.text.Found.the-variants.{Held, Cut}
-use Rattle.wire.proofs.Checks.{picked, not-picked, all-or}
+use Rattle.wire.proofs.Checks.{picked, not-picked, from-picked}
 use Rattle.wire.proofs.Texts.{from-held}
 use Rattle.streamer.specs.Field.{andThen, fieldAt, numbersAt, endOf, counts, countAt, counted, endedAt, placed, textFieldAt, unnamedAt}
 use Rattle.streamer.specs.declared.field.Step.{Step}
@@ -125,16 +125,11 @@ module _ (s : List ℕ) (p e : ℕ) where
   pub from-open : {y : Count} {q f : ℕ} → y ≡ countAt s p e → y ≡ Open q f → (q ≡ p + 4) × (q ≤ f) × (f ≤ e)
   unfolding countAt endOf
   from-open {y} {q} {f} d g =
-      ⊎-elim (λ (h : All (counts s p e)).
-      let k = picked (counts s p e) (Open (p + 4) (endOf s p)) Bad h in
+      let h = from-picked (counts s p e) (Open (p + 4) (endOf s p)) Bad (sym g ∙ d) (λ i. let z : _≡_ {A = ℕ} 0 1 = cc in omega arith) in
+      let k = h .0 in
       let a : q ≡ p + 4 = cc in
       let b : f ≡ endOf s p = cc in
-      omega (arith, h))
-      (λ (h : All (counts s p e) → ⊥).
-      let k = not-picked (counts s p e) (Open (p + 4) (endOf s p)) Bad h in
-      let z : _≡_ {A = ℕ} 0 1 = cc in
-      absurd (omega arith))
-      (all-or (counts s p e))
+      omega (arith, h .1)
 
 -- numbers in a row: place is where the first i of them end
 pub record Counting (at end i place : ℕ) : Type 0 where

@@ -10,7 +10,7 @@ use lib.ListN.{take, drop}
 use lib.Dec.{leb, eqb}
 use Rattle.wire.specs.Check.{All, pick}
 use Rattle.wire.specs.Number.{numAt}
-use Rattle.wire.proofs.Checks.{picked, not-picked, all-or}
+use Rattle.wire.proofs.Checks.{picked, not-picked, from-picked}
 use Rattle.streamer.specs.Field.{andThen, fieldAt, countAt, counted}
 use Rattle.streamer.proofs.Steps.{from-open}
 use Rattle.streamer.specs.Tag.{firstIn, classOf, allowed, fresh, onName, newTag, onOffset, oldTag, tagAt, onTag, headAt}
@@ -106,15 +106,10 @@ new-high s rec p q e low high ts {c} {o} {r} g = go (firstIn (take (e - q) (drop
     go Nowhere i = let z : _≡_ {A = ℕ} 0 1 = cc in absurd (omega arith)
     go (At n) i =
         let k = classOf (take n (drop q s)) in
-        ⊎-elim (λ (h : All (fresh ts low high k)).
-        let a = picked (fresh ts low high k) (Known k (p - rec) (q + n + 1)) (Wrong 22 p) h in
+        let h = from-picked (fresh ts low high k) (Known k (p - rec) (q + n + 1)) (Wrong 22 p) (sym i) (λ j. let z : _≡_ {A = ℕ} 0 1 = cc in omega arith) in
+        let a = h .0 in
         let b : k ≡ c = cc in
-        omega (arith, h .1 .0))
-        (λ (h : All (fresh ts low high k) → ⊥).
-        let a = not-picked (fresh ts low high k) (Known k (p - rec) (q + n + 1)) (Wrong 22 p) h in
-        let z : _≡_ {A = ℕ} 0 1 = cc in
-        absurd (omega arith))
-        (all-or (fresh ts low high k))
+        omega (arith, h .1 .1 .0)
 
 old-high : (v p q low high : ℕ) (ts : List ℕ) {c o r : ℕ} → oldTag v p q low high ts ≡ Known c o r → c ≤ high
 unfolding oldTag
@@ -123,15 +118,10 @@ old-high v p q low high ts {c} {o} {r} g = go (leb v 2147483650) g
     at : (x : First) → onOffset x (v - 2147483650) p q low high ≡ Known c o r → c ≤ high
     at Nowhere i = let z : _≡_ {A = ℕ} 0 1 = cc in absurd (omega arith)
     at (At k) i =
-        ⊎-elim (λ (h : All (allowed low high k)).
-        let a = picked (allowed low high k) (Known k (v - 2147483650) q) (Wrong 22 p) h in
+        let h = from-picked (allowed low high k) (Known k (v - 2147483650) q) (Wrong 22 p) (sym i) (λ j. let z : _≡_ {A = ℕ} 0 1 = cc in omega arith) in
+        let a = h .0 in
         let b : k ≡ c = cc in
-        omega (arith, h .1 .0))
-        (λ (h : All (allowed low high k) → ⊥).
-        let a = not-picked (allowed low high k) (Known k (v - 2147483650) q) (Wrong 22 p) h in
-        let z : _≡_ {A = ℕ} 0 1 = cc in
-        absurd (omega arith))
-        (all-or (allowed low high k))
+        omega (arith, h .1 .1 .0)
 
     go : (b : Bool) → pick b (Wrong 22 p) (onOffset (firstIn ts (v - 2147483650)) (v - 2147483650) p q low high) ≡ Known c o r → c ≤ high
     go true i = let z : _≡_ {A = ℕ} 0 1 = cc in absurd (omega arith)

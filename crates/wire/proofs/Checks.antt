@@ -3,7 +3,7 @@ use Prim.Native.Nat.{ℕ, _≤_, _<_}
 use mathlib.Core.List.{List, [], _∷_}
 use mathlib.Core.Bool.{Bool, true, false, _&&_}
 use mathlib.Core.Path.{_≡_, refl, sym, subst, _∙_}
-use mathlib.Core.Logic.{_⊎_, inl, inr}
+use mathlib.Core.Logic.{_⊎_, inl, inr, ⊎-elim}
 use lib.Dec.{T, ltb}
 use borrow.Author.Tests.{leb-true, ltb-true, ltb-false, eqb-true, le-leb, lt-ltb, eq-eqb}
 use Rattle.wire.specs.Check.{Check, le, lt, eq, yes, passes, Holds, all, All, pick}
@@ -57,6 +57,14 @@ picked cs a b h = rw (yes-all cs h)
 
 pub not-picked : {A : Type 0} (cs : List Check) (a b : A) → (All cs → ⊥) → pick (all cs) a b ≡ b
 not-picked cs a b h = rw (not-all cs h)
+
+-- what was picked tells which: where it is not the second, it is the first and the facts hold; where it is not the first, they do not
+pub from-picked : {A : Type 0} (cs : List Check) (x y : A) {z : A} → z ≡ pick (all cs) x y → (z ≡ y → ⊥) → (z ≡ x) × All cs
+from-picked cs x y {z} e n =
+    ⊎-elim (λ (h : All cs). (e ∙ picked cs x y h, h)) (λ (h : All cs → ⊥). absurd (n (e ∙ not-picked cs x y h))) (all-or cs)
+
+pub from-not-picked : {A : Type 0} (cs : List Check) (x y : A) {z : A} → z ≡ pick (all cs) x y → (z ≡ x → ⊥) → All cs → ⊥
+from-not-picked cs x y e n h = n (e ∙ picked cs x y h)
 
 -- a number is below another or not
 pub below-or : (a b : ℕ) → (a < b) ⊎ (b ≤ a)

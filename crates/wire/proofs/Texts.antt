@@ -2,14 +2,13 @@
 use Prim.Native.Nat.{ℕ, _-_}
 use mathlib.Core.List.{List, _∷_}
 use mathlib.Core.Path.{_≡_, sym}
-use mathlib.Core.Logic.{⊎-elim}
 use native.Mathlib.Omega.{arith}
 use lib.ListN.{length}
 use Rattle.wire.specs.Check.{Check, le, All}
 use Rattle.wire.specs.Text.{textAt, textFits, textIn}
 use Rattle.wire.specs.declared.text.Text.{Text}
 use Rattle.wire.specs.declared.text.Found.the-variants.{Held, Cut}
-use Rattle.wire.proofs.Checks.{picked, not-picked, all-or}
+use Rattle.wire.proofs.Checks.{picked, not-picked, from-picked, from-not-picked}
 
 -- what a string that is read within end meets
 abbrev pub textChecks : List ℕ → ℕ → ℕ → List Check
@@ -26,17 +25,8 @@ module _ (s : List ℕ) (p end : ℕ) where
 
   pub from-cut : Cut ≡ textIn s p end → All (textChecks s p end) → ⊥
   unfolding textIn
-  from-cut e h =
-      let k = picked (textChecks s p end) (Held (textAt s p)) Cut h in
-      let z : _≡_ {A = ℕ} 0 1 = cc in
-      omega arith
+  from-cut e h = from-not-picked (textChecks s p end) (Held (textAt s p)) Cut e (λ i. let z : _≡_ {A = ℕ} 0 1 = cc in omega arith) h
 
   pub from-held : {t : Text} → Held t ≡ textIn s p end → (t ≡ textAt s p) × All (textChecks s p end)
   unfolding textIn
-  from-held {t} e =
-      ⊎-elim (λ (h : All (textChecks s p end)). let k = picked (textChecks s p end) (Held (textAt s p)) Cut h in (cc, h))
-      (λ (h : All (textChecks s p end) → ⊥).
-      let k = not-picked (textChecks s p end) (Held (textAt s p)) Cut h in
-      let z : _≡_ {A = ℕ} 0 1 = cc in
-      absurd (omega arith))
-      (all-or (textChecks s p end))
+  from-held {t} e = let f = from-picked (textChecks s p end) (Held (textAt s p)) Cut e (λ i. let z : _≡_ {A = ℕ} 0 1 = cc in omega arith) in let g = f .0 in (cc, f .1)
