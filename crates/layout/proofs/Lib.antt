@@ -1,4 +1,3 @@
-pub mod Equal
 pub mod Opens
 pub mod Records
 pub mod Spans

@@ -10,7 +10,8 @@ use Rattle.wire.specs.Check.{le, yes}
 use Rattle.wire.specs.Text.{contentOf}
 use Rattle.wire.specs.declared.text.Text.{Text}
 use Rattle.wire.proofs.Checks.{not-all}
-use Rattle.layout.specs.Name.{eqBytes, sameBytes, named}
+use Rattle.wire.specs.Equal.{eqBytes}
+use Rattle.layout.specs.Name.{sameBytes, named}
 
 pub and-true : (b : Bool) → b ≡ (b && true)
 and-true true = refl

@@ -1,19 +1,12 @@
 -- Names as bytes.
 use Prim.Native.Nat.{ℕ, _+_}
-use mathlib.Core.Bool.{Bool, true, false, _&&_}
+use mathlib.Core.Bool.{Bool}
 use mathlib.Core.List.{List, [], _∷_}
-use lib.Dec.{eqb}
 use lib.ListN.{length, take, drop}
 use Rattle.wire.specs.Check.{all, le, yes}
+use Rattle.wire.specs.Equal.{eqBytes}
 use Rattle.wire.specs.Text.{contentOf}
 use Rattle.wire.specs.declared.text.Text.{Text}
-
--- the same bytes
-unfoldable pub eqBytes : List ℕ → List ℕ → Bool
-eqBytes [] [] = true
-eqBytes [] (b ∷ bs) = false
-eqBytes (a ∷ xs) [] = false
-eqBytes (a ∷ xs) (b ∷ bs) = eqb a b && eqBytes xs bs
 
 -- n bytes stand at a and at b, and are the same
 unfoldable pub sameBytes : List ℕ → ℕ → ℕ → ℕ → Bool

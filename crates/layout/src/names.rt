@@ -1,25 +1,9 @@
 // Names as bytes.
 ghost use mathlib.Core.Path.{_≡_};
 ghost use lib.ListN.{take, drop};
-ghost use Rattle.layout.specs.Name.{eqBytes, sameBytes, named, tFile, tDirectory, tList, streamerInfo};
+ghost use Rattle.layout.specs.Name.{sameBytes, named, tFile, tDirectory, tList, streamerInfo};
 use wire::text::Text;
-
-// Whether two slices hold the same bytes.
-pub(crate) fn same(a: &[u8], b: &[u8]) -> bool
-    ensures { λ r. ⌜ r ≡ eqBytes (now (a .entry)) (now (b .entry)) ⌝ }
-{
-    if a.len() != b.len() {
-        return false;
-    }
-    let mut i: usize = 0;
-    while i < a.len() {
-        if a[i] != b[i] {
-            return false;
-        }
-        i += 1;
-    }
-    true
-}
+use wire::text::same;
 
 // Whether the same n bytes stand at two places of a file.
 pub fn same_at(s: &[u8], a: usize, b: usize, n: usize) -> bool

@@ -1,42 +1,16 @@
--- Byte strings that are equal, the first place of a value, and the class of a name.
+-- The first place of a value, and the class of a name.
 use Prim.Native.Nat.{ℕ, zero, suc, _+_, _-_, _<_}
 use mathlib.Core.List.{List, [], _∷_}
-use mathlib.Core.Bool.{Bool, true, false, _&&_}
+use mathlib.Core.Bool.{Bool, true, false}
 use mathlib.Core.Path.{_≡_, refl, sym, ap, _∙_}
 use native.Mathlib.Omega.{arith}
 use borrow.Author.Tests.{eq-eqb, ne-eqb}
 use lib.ListN.{length, getD, take, drop, length-take}
 use lib.Dec.{eqb}
-use Rattle.streamer.specs.Tag.{spells, later, firstIn, classIn}
+use Rattle.wire.specs.Equal.{eqBytes}
+use Rattle.streamer.specs.Tag.{later, firstIn, classIn}
 use Rattle.streamer.specs.declared.tag.First.{First}
 use Rattle.streamer.specs.declared.tag.First.the-variants.{At, Nowhere}
-
--- equal strings
-pub spells-all : (a b : List ℕ) → length a ≡ length b → ((k : ℕ) → k < length a → getD a k 0 ≡ getD b k 0) → true ≡ spells a b
-unfolding spells
-spells-all [] [] e h = refl
-spells-all [] (y ∷ ys) e h = absurd (omega arith)
-spells-all (x ∷ xs) [] e h = absurd (omega arith)
-spells-all (x ∷ xs) (y ∷ ys) e h = rw (eq-eqb x y (h 0 (omega arith)), ← (spells-all xs ys (omega arith) (λ k l. h (suc k) (omega arith))))
-
--- strings of another length, or with another byte
-and-false : (a : Bool) → (a && false) ≡ false
-and-false true = refl
-and-false false = refl
-
-pub spells-short : (a b : List ℕ) → (length a ≡ length b → ⊥) → false ≡ spells a b
-unfolding spells
-spells-short [] [] e = absurd (e refl)
-spells-short [] (y ∷ ys) e = refl
-spells-short (x ∷ xs) [] e = refl
-spells-short (x ∷ xs) (y ∷ ys) e = rw (← (spells-short xs ys (λ h. e (omega arith)))) (sym (and-false (eqb x y)))
-
-pub spells-not : (a b : List ℕ) (k : ℕ) → k < length a → k < length b → (getD a k 0 ≡ getD b k 0 → ⊥) → false ≡ spells a b
-unfolding spells
-spells-not [] b k l m h = absurd (omega arith)
-spells-not (x ∷ xs) [] k l m h = absurd (omega arith)
-spells-not (x ∷ xs) (y ∷ ys) zero l m h = rw (ne-eqb x y h)
-spells-not (x ∷ xs) (y ∷ ys) (suc k) l m h = rw (← (spells-not xs ys k (omega arith) (omega arith) h)) (sym (and-false (eqb x y)))
 
 -- the first place of a value
 pub nowhere : (l : List ℕ) (v : ℕ) → ((j : ℕ) → j < length l → getD l j 0 ≡ v → ⊥) → Nowhere ≡ firstIn l v
@@ -72,11 +46,11 @@ pub zero-within : (s : List ℕ) (q e : ℕ) {y : First} {n : ℕ} → y ≡ fir
 zero-within s q e {y} {n} d g = omega (arith, first-within (take (e - q) (drop q s)) 0 d g, length-take (e - q) (drop q s))
 
 -- the class of a name, by the twelve names in turn
-pub is-class : (s n : List ℕ) (ns : List (List ℕ)) {y : Bool} → y ≡ spells s n → y ≡ true → 0 ≡ classIn (n ∷ ns) s
+pub is-class : (s n : List ℕ) (ns : List (List ℕ)) {y : Bool} → y ≡ eqBytes s n → y ≡ true → 0 ≡ classIn (n ∷ ns) s
 unfolding classIn
 is-class s n ns d g = rw (sym d ∙ g)
 
-pub next-class : (s n : List ℕ) (ns : List (List ℕ)) {y : Bool} {k : ℕ} → y ≡ spells s n → y ≡ false → k ≡ classIn ns s → suc k ≡ classIn (n ∷ ns) s
+pub next-class : (s n : List ℕ) (ns : List (List ℕ)) {y : Bool} {k : ℕ} → y ≡ eqBytes s n → y ≡ false → k ≡ classIn ns s → suc k ≡ classIn (n ∷ ns) s
 unfolding classIn
 next-class s n ns d g h = rw (sym d ∙ g) (ap suc h)
 

@@ -6,6 +6,7 @@ use lib.ListN.{length, set, replicate}
 use lib.Dec.{leb, eqb}
 use Rattle.wire.specs.Answer.{done, refusal}
 use Rattle.wire.specs.Check.{all, pick}
+use Rattle.wire.specs.Equal.{eqBytes}
 use Rattle.wire.specs.Number.{numAt}
 use Rattle.wire.specs.Text.{contentOf}
 use Rattle.key.specs.Header.{plain, unpackedData}
@@ -15,7 +16,7 @@ use Rattle.key.specs.declared.header.Key.{Key}
 use Rattle.key.specs.declared.piece.Piece.{Piece}
 use Rattle.key.specs.declared.piece.Piece.the-variants.{Record, Gap, Refused}
 use Rattle.streamer.specs.Field.{andThen, fieldAt, numbersAt, countAt, counted, unnamedAt, zeroAt, objectAt}
-use Rattle.streamer.specs.Tag.{spells, headAt, headed}
+use Rattle.streamer.specs.Tag.{headAt, headed}
 use Rattle.streamer.specs.Row.{flat, Run, going, stop, times, ends}
 use Rattle.streamer.specs.Element.{namedAt, withName, elementAt}
 use Rattle.streamer.specs.declared.field.Count.{Count}
@@ -91,7 +92,7 @@ infoName = 83 ∷ 116 ∷ 114 ∷ 101 ∷ 97 ∷ 109 ∷ 101 ∷ 114 ∷ 73 ∷ 
 
 -- "plain, TList, StreamerInfo"
 abbrev pub isInfo : List ℕ → Key → Bool
-isInfo s k = all (plain k) && (spells (contentOf s (k .class)) listName && spells (contentOf s (k .name)) infoName)
+isInfo s k = all (plain k) && (eqBytes (contentOf s (k .class)) listName && eqBytes (contentOf s (k .name)) infoName)
 
 -- "5 or 6 as for a piece, a gap gives 20; then 20 unless plain, TList, StreamerInfo; then 19"
 unfoldable pub recordAt : List ℕ → ℕ → Key → Run

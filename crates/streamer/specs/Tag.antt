@@ -1,10 +1,10 @@
 -- Class tags: document 01, "A new class tag is 0xffffffff and a name ended by zero, once per class and record".
 use Prim.Native.Nat.{ℕ, zero, suc, _+_, _-_}
 use mathlib.Core.List.{List, [], _∷_}
-use mathlib.Core.Bool.{Bool, true, false, _&&_}
 use lib.ListN.{getD, take, drop}
 use lib.Dec.{leb, eqb}
 use Rattle.wire.specs.Check.{Check, le, eq, all, pick}
+use Rattle.wire.specs.Equal.{eqBytes}
 use Rattle.wire.specs.Number.{numAt}
 use Rattle.streamer.specs.Field.{andThen, fieldAt, countAt, counted}
 use Rattle.streamer.specs.declared.tag.First.{First}
@@ -14,13 +14,6 @@ use Rattle.streamer.specs.declared.tag.Tag.the-variants.{Known, Wrong}
 use Rattle.streamer.specs.declared.tag.Start.{Start}
 use Rattle.streamer.specs.declared.tag.Head.{Head}
 use Rattle.streamer.specs.declared.tag.Head.the-variants as head
-
--- two byte strings are equal
-unfoldable pub spells : List ℕ → List ℕ → Bool
-spells [] [] = true
-spells [] (y ∷ ys) = false
-spells (x ∷ xs) [] = false
-spells (x ∷ xs) (y ∷ ys) = eqb x y && spells xs ys
 
 -- the first place of a list that holds a value
 abbrev pub later : First → First
@@ -51,7 +44,7 @@ classNames =
 -- the number of the class that a byte string names; an unknown name gets the number after the last
 unfoldable pub classIn : List (List ℕ) → List ℕ → ℕ
 classIn [] s = 0
-classIn (n ∷ ns) s = pick (spells s n) 0 (suc (classIn ns s))
+classIn (n ∷ ns) s = pick (eqBytes s n) 0 (suc (classIn ns s))
 
 unfoldable pub classOf : List ℕ → ℕ
 classOf s = classIn classNames s

@@ -21,11 +21,11 @@ use crate::field::zero;
 use crate::row::Rows;
 use crate::tag::Head;
 use crate::tag::read_head;
-use crate::tag::same;
 use key::header::Key;
 use key::piece::Piece;
 use key::piece::read_piece;
 use wire::number::be32;
+use wire::text::same;
 
 // How many objects a list or an array holds, and the place after that number.
 pub struct Size {

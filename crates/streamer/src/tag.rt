@@ -3,12 +3,13 @@ ghost use mathlib.Core.Path.{_≡_};
 ghost use mathlib.Core.Bool.{true};
 ghost use Prim.Native.Nat.{_-_, _≤_, _<_};
 ghost use lib.ListN.{length};
-ghost use Rattle.streamer.specs.Tag.{spells, firstIn, classOf, newTag, oldTag, tagAt, headAt};
+ghost use Rattle.streamer.specs.Tag.{firstIn, classOf, newTag, oldTag, tagAt, headAt};
 use crate::field::Count;
 use crate::field::Step;
 use crate::field::field;
 use crate::field::open;
 use wire::number::be32;
+use wire::text::same;
 
 // The first place of a list that holds a value.
 pub enum First {
@@ -34,23 +35,6 @@ pub struct Start {
 pub enum Head {
     Known(Start),
     Wrong(u32, usize),
-}
-
-// Whether two byte strings are equal.
-pub(crate) fn same(a: &[u8], b: &[u8]) -> bool
-    ensures { λ r. ⌜ r ≡ spells (now (a .entry)) (now (b .entry)) ⌝ }
-{
-    if a.len() != b.len() {
-        return false;
-    }
-    let mut i: usize = 0;
-    while i < a.len() {
-        if a[i] != b[i] {
-            return false;
-        }
-        i += 1;
-    }
-    true
 }
 
 // The first zero byte.

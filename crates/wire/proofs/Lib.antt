@@ -1,5 +1,6 @@
 pub mod Checks
 pub mod Dates
+pub mod Equal
 pub mod Numbers
 pub mod Patches
 pub mod Signs

@@ -1,6 +1,7 @@
 pub mod Answer
 pub mod Check
 pub mod Date
+pub mod Equal
 pub mod Number
 pub mod Patch
 pub mod Text

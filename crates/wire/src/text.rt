@@ -1,5 +1,6 @@
 // Counted strings: a length byte 0 to 254 and as many bytes.
 ghost use mathlib.Core.Path.{_≡_};
+ghost use Rattle.wire.specs.Equal.{eqBytes};
 ghost use Rattle.wire.specs.Text.{textIn};
 
 // Where a string stands: its first byte, its length, and the place after it.
@@ -36,4 +37,21 @@ pub fn read_text(s: &[u8], at: usize, end: usize) -> Found
         len,
         next: at + 1 + len,
     })
+}
+
+// Whether two slices hold the same bytes.
+pub fn same(a: &[u8], b: &[u8]) -> bool
+    ensures { λ r. ⌜ r ≡ eqBytes (now (a .entry)) (now (b .entry)) ⌝ }
+{
+    if a.len() != b.len() {
+        return false;
+    }
+    let mut i: usize = 0;
+    while i < a.len() {
+        if a[i] != b[i] {
+            return false;
+        }
+        i += 1;
+    }
+    true
 }

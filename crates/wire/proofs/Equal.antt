@@ -9,7 +9,7 @@ use borrow.Author.Tests.{eq-eqb, ne-eqb, eqb-true}
 use lib.Dec.{eqb, T}
 use lib.ListN.{length, getD, drop, drop-of-length-le}
 use lib.Seq.{drop-cons}
-use Rattle.layout.specs.Name.{eqBytes}
+use Rattle.wire.specs.Equal.{eqBytes}
 
 -- while two slices are compared: what is left decides
 pub record Comparing (a b : List ℕ) (i : ℕ) : Type 0 where

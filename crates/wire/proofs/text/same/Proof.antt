@@ -2,9 +2,9 @@ use native.Mathlib.Omega.{arith}
 use borrow.Author.Needs.{needs}
 use Prim.Native.Nat.{_-_}
 use lib.ListN.{length}
-use Rattle.layout.proofs.Equal.{Comparing, began, turn, differ, ended, uneven}
-use Rattle.layout.proofs.names.same.Statement.{statement}
-use Rattle.layout.proofs.names.same.Tie as tie
+use Rattle.wire.proofs.Equal.{Comparing, began, turn, differ, ended, uneven}
+use Rattle.wire.proofs.text.same.Statement.{statement}
+use Rattle.wire.proofs.text.same.Tie as tie
 
 abbrev Inv-loop : tie.InvT-loop
 Inv-loop a b i₀ i = Comparing a b i
