@@ -24,7 +24,9 @@ unfoldable pub firstIn : List ℕ → ℕ → First
 firstIn [] v = Nowhere
 firstIn (x ∷ xs) v = pick (eqb x v) (At 0) (later (firstIn xs v))
 
--- the twelve classes, in the order of their numbers: TStreamerInfo, TObjArray, and those of kinds 1 to 10
+-- the twelve classes, in the order of their numbers: 0 TStreamerInfo, 1 TObjArray, then 002's list, of kinds 1 to 10:
+-- TStreamerBase, TStreamerBasicType, TStreamerString, TStreamerBasicPointer, TStreamerObject, TStreamerObjectPointer,
+-- TStreamerLoop, TStreamerObjectAny, TStreamerSTL, TStreamerSTLString
 abbrev pub classNames : List (List ℕ)
 classNames =
     (84 ∷ 83 ∷ 116 ∷ 114 ∷ 101 ∷ 97 ∷ 109 ∷ 101 ∷ 114 ∷ 73 ∷ 110 ∷ 102 ∷ 111 ∷ [])
