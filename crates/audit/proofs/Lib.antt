@@ -1,3 +1,4 @@
+pub mod Copies
 pub mod Frees
 pub mod Partitions
 pub mod Searches

@@ -1,3 +1,4 @@
+pub mod Entry
 pub mod Free
 pub mod Partition
 pub mod Row

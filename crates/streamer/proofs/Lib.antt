@@ -1,3 +1,4 @@
+mod Examples
 pub mod Steps
 pub mod Words
 pub mod Tables
