@@ -1,14 +1,14 @@
 -- The free list and the info record: what the loops and the tests answer.
-use Prim.Native.Nat.{ℕ, zero, suc, _+_, _*_, _-_, _<_, _≤_}
-use mathlib.Core.Bool.{Bool, true, false, not, _&&_, _||_}
+use Prim.Native.Nat.{ℕ, suc, _+_, _*_, _-_, _<_, _≤_}
+use mathlib.Core.Bool.{Bool, true, false, not}
 use mathlib.Core.List.{List, [], _∷_}
-use mathlib.Core.Path.{_≡_, refl, sym, ap, _∙_, subst}
+use mathlib.Core.Path.{_≡_, refl, sym, ap, _∙_}
 use native.Mathlib.Numerals.{add-one}
 use native.Mathlib.Omega.{arith}
 use borrow.Author.Tests.{eq-eqb, ne-eqb, le-leb}
 use Rattle.wire.specs.Number.{numAt}
 use Rattle.layout.proofs.Spans.{and-true}
-use lib.Dec.{eqb, T}
+use lib.Dec.{eqb}
 use lib.ListN.{length, getD, drop, drop-of-length-le}
 use lib.Seq.{drop-cons}
 use Rattle.wire.specs.Check.{le, eq, all, All}
@@ -18,33 +18,10 @@ use Rattle.layout.specs.Keys.{freeIn, infoIn}
 use Rattle.layout.specs.declared.copies.Data.the-variants.{Held, Bad}
 use Rattle.layout.specs.declared.file.FileHead.{FileHead}
 use Rattle.layout.proofs.Records.{passed, fails}
-use Rattle.audit.specs.Free.{starts, gapOf, segmentFits, segmentsAre, freeData, freeHolds, infoHolds}
+use Rattle.rules.proofs.Rows.{start-there, no-start}
+use Rattle.rules.specs.Free.{gapOf, segmentFits, segmentsAre, freeData, freeHolds, infoHolds}
 use Rattle.audit.specs.Row.{RowOf}
 use Rattle.audit.specs.declared.rows.Row.the-variants.{At, Nothing}
-
-false-true : {A : Type 0} → _≡_ {A = Bool} false true → A
-false-true e = absurd (subst T (sym e) tt)
-
-and-false : (b : Bool) → (b && false) ≡ false
-and-false true = refl
-and-false false = refl
-
-or-true : (b : Bool) → (b || true) ≡ true
-or-true true = refl
-or-true false = refl
-
--- a row that was found, or not, says whether a piece starts there
-pub start-there : (qs : List ℕ) (p i : ℕ) → i < length qs → getD qs i 0 ≡ p → starts qs p ≡ true
-unfolding starts
-start-there [] p i l e = absurd (omega arith)
-start-there (q ∷ qs) p zero l e = rw (eq-eqb q p e)
-start-there (q ∷ qs) p (suc i) l e = rw (start-there qs p i (omega arith) e) (or-true (eqb q p))
-
-pub no-start : (qs : List ℕ) (p : ℕ) → ((i : ℕ) → i < length qs → getD qs i 0 ≡ p → ⊥) → starts qs p ≡ false
-unfolding starts
-no-start [] p h = refl
-no-start (q ∷ qs) p h =
-    rw (ne-eqb q p (λ e. h zero (omega arith) e)) (no-start qs p (λ i l e. h (suc i) (omega arith) e))
 
 -- while the segments are compared with the gaps: what is left decides
 pub record Matching (s qs : List ℕ) (from end at i : ℕ) : Type 0 where
@@ -110,11 +87,11 @@ module _ (s qs : List ℕ) (h : FileHead) where
     some : all (eq (h .seekinfo) 0 ∷ eq (h .nbytesinfo) 0 ∷ []) ≡ false
     some = not-all (eq (h .seekinfo) 0 ∷ eq (h .nbytesinfo) 0 ∷ []) (λ a. z (omega (arith, a)))
 
-    pub info-nowhere : RowOf qs (length qs) (h .seekinfo) Nothing → false ≡ infoHolds s qs h
+    pub info-nowhere : RowOf qs (h .seekinfo) Nothing → false ≡ infoHolds s qs h
     unfolding infoHolds
     info-nowhere r = rw (some, no-start qs (h .seekinfo) r)
 
-    pub info-at : {i : ℕ} {b : Bool} → RowOf qs (length qs) (h .seekinfo) (At i) → b ≡ infoIn s (h .seekinfo) (h .nbytesinfo)
+    pub info-at : {i : ℕ} {b : Bool} → RowOf qs (h .seekinfo) (At i) → b ≡ infoIn s (h .seekinfo) (h .nbytesinfo)
         → b ≡ infoHolds s qs h
     unfolding infoHolds
     info-at {i} r e = rw (some, start-there qs (h .seekinfo) i (r .0) (r .1)) e
@@ -125,11 +102,11 @@ module _ (s qs : List ℕ) (h : FileHead) where
   free-is-head e = rw (eq-eqb (h .seekfree) 100 e)
 
   module _ (z : h .seekfree ≡ 100 → ⊥) where
-    pub free-nowhere : RowOf qs (length qs) (h .seekfree) Nothing → false ≡ freeHolds s qs h
+    pub free-nowhere : RowOf qs (h .seekfree) Nothing → false ≡ freeHolds s qs h
     unfolding freeHolds
     free-nowhere r = rw (ne-eqb (h .seekfree) 100 z, no-start qs (h .seekfree) r)
 
-    module _ {i : ℕ} (r : RowOf qs (length qs) (h .seekfree) (At i)) where
+    module _ {i : ℕ} (r : RowOf qs (h .seekfree) (At i)) where
       by-data : freeHolds s qs h ≡ freeData s qs (h .nfree) (freeIn s (h .seekfree) (h .nbytesfree))
       unfolding freeHolds
       by-data = rw (ne-eqb (h .seekfree) 100 z, start-there qs (h .seekfree) i (r .0) (r .1))

@@ -1,55 +1,18 @@
 -- Partitions, and the table that their starts are written to.
-use Prim.Native.Nat.{ℕ, zero, suc, _+_, _≤_, _<_}
+use Prim.Native.Nat.{ℕ, suc, _+_, _≤_, _<_}
 use mathlib.Core.List.{List, [], _∷_, _++_, append-assoc}
 use mathlib.Core.Path.{_≡_, refl, sym, ap, _∙_}
 use native.Mathlib.Omega.{arith}
-use lib.ListN.{length, drop, set, getD, length-append, length-take, length-drop, drop-of-length-le, List·getD-append}
+use lib.ListN.{length, drop, set, getD, length-append, length-take, length-drop, drop-of-length-le}
 use lib.Seq.{take-all, drop-cons, set-at, take-append-le}
 use Rattle.key.specs.Piece.{pieceAt, sizeOf}
 use Rattle.key.specs.declared.piece.Piece.{Piece}
 use Rattle.key.specs.declared.piece.Piece.the-variants.{Record, Gap, Refused}
 use Rattle.key.proofs.Pieces.{size-fits, from-gap, from-refused, record-sized}
-use Rattle.audit.specs.Partition.{Partition, stepOf, over, Walked}
-use Rattle.audit.specs.Row.{Rising}
+use Rattle.rules.specs.Partition.{Partition}
+use Rattle.rules.proofs.Partitions.{snoc}
+use Rattle.audit.specs.Walk.{stepOf, over, Walked}
 use Rattle.audit.specs.declared.chain.Outcome.the-variants.{Whole, Fault}
-
--- one piece more
-pub snoc : (s : List ℕ) (p : ℕ) (qs : List ℕ) (e : ℕ) → Partition s p e qs → 0 < sizeOf (pieceAt s e)
-    → Partition s p (e + sizeOf (pieceAt s e)) (qs ++ e ∷ [])
-snoc s p [] e h l = (sym h, (rw h l, rw h refl))
-snoc s p (q ∷ qs) e h l = (h .0, (h .1 .0, snoc s (p + sizeOf (pieceAt s p)) qs e (h .1 .1) l))
-
--- at most one partition from a place to the end
-pub one-partition : (s : List ℕ) (p : ℕ) (qs rs : List ℕ) → Partition s p (length s) qs → Partition s p (length s) rs → qs ≡ rs
-one-partition s p [] [] h k = refl
-one-partition s p [] (r ∷ rs) h k = let f = size-fits s p (k .1 .0) in absurd (omega arith)
-one-partition s p (q ∷ qs) [] h k = let f = size-fits s p (h .1 .0) in absurd (omega arith)
-one-partition s p (q ∷ qs) (r ∷ rs) h k =
-    let e = one-partition s (p + sizeOf (pieceAt s p)) qs rs (h .1 .1) (k .1 .1) in
-    let f = h .0 in
-    let g = k .0 in
-    cc
-
--- a chain that stops at a refusal: there is no partition
-pub no-partition : (s : List ℕ) (p : ℕ) (qs rs : List ℕ) (e : ℕ) → Partition s p e qs → sizeOf (pieceAt s e) ≡ 0 → e < length s
-    → Partition s p (length s) rs → ⊥
-no-partition s p [] [] e h z l k = omega arith
-no-partition s p [] (r ∷ rs) e h z l k = let y = rw h at (k .1 .0) in omega arith
-no-partition s p (q ∷ qs) [] e h z l k = let f = size-fits s p (h .1 .0) in omega arith
-no-partition s p (q ∷ qs) (r ∷ rs) e h z l k = no-partition s (p + sizeOf (pieceAt s p)) qs rs e (h .1 .1) z l (k .1 .1)
-
--- the starts of a partition rise
-above : (s : List ℕ) (p : ℕ) (qs : List ℕ) (e : ℕ) → Partition s p e qs → (i : ℕ) → i < length qs → p ≤ getD qs i 0
-above s p [] e h i l = absurd (omega arith)
-above s p (q ∷ qs) e h zero l = omega (arith, h .0)
-above s p (q ∷ qs) e h (suc i) l = omega (arith, above s (p + sizeOf (pieceAt s p)) qs e (h .1 .1) i (omega arith))
-
-pub rises : (s : List ℕ) (p : ℕ) (qs : List ℕ) (e : ℕ) → Partition s p e qs → Rising qs (length qs)
-rises s p [] e h i j l m = absurd (omega arith)
-rises s p (q ∷ qs) e h zero zero l m = absurd (omega arith)
-rises s p (q ∷ qs) e h zero (suc j) l m = omega (arith, h .0, h .1 .0, above s (p + sizeOf (pieceAt s p)) qs e (h .1 .1) j (omega arith))
-rises s p (q ∷ qs) e h (suc i) zero l m = absurd (omega arith)
-rises s p (q ∷ qs) e h (suc i) (suc j) l m = rises s (p + sizeOf (pieceAt s p)) qs e (h .1 .1) i j (omega arith) (omega arith)
 
 -- the table
 pub length-over : (qs t : List ℕ) → length (over qs t) ≡ length t
@@ -168,13 +131,3 @@ module _ {s t u : List ℕ} {at n : ℕ} (w : Walking s t u at n) where
   faulted {c} {p} l e =
       let f = stopped s at e in
       (w .starts, rw (f .0) (w .chain), rw (f .0) l, rw (f .0) (f .1), w .table)
-
--- the starts in a table that had room for them rise
-pub table-rises : (s qs t : List ℕ) (p e : ℕ) → Partition s p e qs → length qs ≤ length t → Rising (over qs t) (length qs)
-table-rises s qs t p e h l i j k m =
-    rw (
-      roomy qs t l,
-      List·getD-append qs (drop (length qs) t) 0 i (omega arith),
-      List·getD-append qs (drop (length qs) t) 0 j m,
-    )
-    (rises s p qs e h i j k m)

@@ -7,7 +7,7 @@ use native.Mathlib.Nat.{eq-or-lt-of-le}
 use native.Mathlib.Omega.{arith}
 use lib.ListN.{getD}
 use Rattle.wire.proofs.Checks.{below-or}
-use Rattle.audit.specs.Row.{Rising}
+use Rattle.rules.specs.Row.{Rising}
 
 -- while the rows from lo to hi are left: those before are lower, those after higher
 pub record Between (t : List ℕ) (n p lo hi : ℕ) : Type 0 where

@@ -1,4 +1,4 @@
-pub mod Entry
-pub mod Free
-pub mod Partition
+pub mod Listing
 pub mod Row
+pub mod Tables
+pub mod Walk

@@ -3,7 +3,7 @@ ghost use mathlib.Core.Path.{_≡_};
 ghost use Prim.Native.Nat.{_≤_};
 ghost use lib.ListN.{length};
 ghost use Rattle.key.specs.Piece.{pieceAt};
-ghost use Rattle.audit.specs.Partition.{stepOf, Walked};
+ghost use Rattle.audit.specs.Walk.{stepOf, Walked};
 use key::piece::Piece;
 use key::piece::read_piece;
 

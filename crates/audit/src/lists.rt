@@ -5,10 +5,11 @@ ghost use mathlib.Core.Bool.{_&&_};
 ghost use lib.ListN.{length};
 ghost use Rattle.wire.specs.Check.{all};
 ghost use Rattle.key.specs.Piece.{pieceAt};
-ghost use Rattle.audit.specs.Free.{gapOf, segmentFits, segmentsAre, freeHolds, infoHolds};
-ghost use Rattle.audit.specs.Row.{Rising};
+ghost use Rattle.rules.specs.Free.{gapOf, segmentFits, segmentsAre, freeHolds, infoHolds};
+ghost use Rattle.rules.specs.Row.{Rising};
 use crate::rows::Row;
 use crate::rows::find_row;
+use crate::rows::long;
 use key::piece::Piece;
 use key::piece::read_piece;
 use layout::copies::Data;
@@ -18,16 +19,13 @@ use layout::file::FileHead;
 use wire::number::be16;
 use wire::number::be32;
 
-fn long(v: u32) -> usize
-    ensures { λ r. ⌜ (r ≡ v) × (r ≤ 4294967295) ⌝ }
-{
-    v as usize
-}
-
 // The size of the gap at a place, 0 where no gap stands.
-fn gap_size(file: &[u8], at: usize) -> usize
+pub(crate) fn gap_size(file: &[u8], at: usize) -> usize
     ensures { λ r. ⌜ (r ≡ gapOf (pieceAt (now (file .entry)) at)) × (r ≤ 4294967295) ⌝ }
 {
+    if be32(file, at) < 2147483648 {
+        return 0;
+    }
     match read_piece(file, at) {
         Piece::Record(_) => 0,
         Piece::Gap(n) => n as usize,
@@ -85,7 +83,7 @@ pub(crate) fn check_free(file: &[u8], start: &[u32], head: FileHead) -> bool
     if seek == 100 {
         return false;
     }
-    let Row::At(_) = find_row(start, start.len(), seek) else {
+    let Row::At(_) = find_row(start, seek as usize) else {
         return false;
     };
     let Data::Held(from, end) = read_free(file, seek as usize, head.nbytesfree) else {
@@ -110,7 +108,7 @@ pub(crate) fn check_info(file: &[u8], start: &[u32], head: FileHead) -> bool
     if seek as u64 + nbytes as u64 == 0 {
         return true;
     }
-    let Row::At(_) = find_row(start, start.len(), seek) else {
+    let Row::At(_) = find_row(start, seek as usize) else {
         return false;
     };
     is_info(file, seek as usize, nbytes)

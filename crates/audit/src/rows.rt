@@ -1,23 +1,31 @@
 // The table of starts, searched by place.
+ghost use mathlib.Core.Path.{_≡_};
 ghost use Prim.Native.Nat.{_≤_};
 ghost use lib.ListN.{length};
-ghost use Rattle.audit.specs.Row.{Rising, RowOf};
+ghost use Rattle.rules.specs.Row.{Rising};
+ghost use Rattle.audit.specs.Row.{RowOf};
 
 pub enum Row {
     At(usize),
     Nothing,
 }
 
-// The row of the first n whose start is the place.
-pub(crate) fn find_row(start: &[u32], n: usize, place: u32) -> Row
-    requires { ⌜ (n ≤ length (now start)) × Rising (now start) n ⌝ }
-    ensures { λ r. ⌜ RowOf (now (start .entry)) n place r ⌝ }
+pub(crate) fn long(v: u32) -> usize
+    ensures { λ r. ⌜ (r ≡ v) × (r ≤ 4294967295) ⌝ }
+{
+    v as usize
+}
+
+// The row whose start is the place.
+pub(crate) fn find_row(start: &[u32], place: usize) -> Row
+    requires { ⌜ Rising (now start) (length (now start)) ⌝ }
+    ensures { λ r. ⌜ RowOf (now (start .entry)) place r ⌝ }
 {
     let mut lo: usize = 0;
-    let mut hi = n;
+    let mut hi = start.len();
     while lo < hi {
         let mid = lo + (hi - lo) / 2;
-        let s = start[mid];
+        let s = long(start[mid]);
         if s == place {
             return Row::At(mid);
         }

@@ -6,6 +6,7 @@ ghost use lib.ListN.{length};
 ghost use Rattle.streamer.specs.Info.{infoAnswer, infoTable};
 ghost use Rattle.key.specs.Piece.{pieceAt, pieceAnswer};
 ghost use Rattle.key.specs.Writer.{writeAnswer, writeBuffer};
+ghost use Rattle.audit.specs.Tables.{Audited};
 ghost use Rattle.capi.specs.Told.{Told, dateList, pieceList, recordList, dateOf, fieldsOf, storedCycle};
 use key::header::Key;
 use key::piece::Piece;
@@ -176,4 +177,22 @@ pub extern "C" fn rootmap_info(
     *place = i.place;
     *count = i.count;
     i.number
+}
+
+// Audits a whole file: 0 and the number of pieces, with a row a piece in the three tables, or a refusal.
+#[no_mangle]
+pub extern "C" fn rootmap_audit(
+    file: &[u8],
+    start: &mut [u32],
+    part: &mut [u32],
+    owner: &mut [u32],
+    place: &mut u64,
+    count: &mut u64,
+) -> u64
+    ensures { λ r. ⌜ Audited (now (file .entry)) (now (start .entry)) (now (part .entry)) (now (owner .entry)) (now (start .exit)) (now (part .exit)) (now (owner .exit)) r (now (place .exit)) (now (count .exit)) ⌝ }
+{
+    let v = audit::audit(file, start, part, owner);
+    *place = v.place;
+    *count = v.count;
+    v.number
 }

@@ -15,12 +15,14 @@ use Rattle.wire.specs.declared.text.Text.{Text}
 use Rattle.wire.proofs.Checks.{yes-all, not-all, all-yes, picked, not-picked, from-picked}
 use Rattle.key.specs.Header.{sumOf, headerIn}
 use Rattle.key.specs.declared.header.Key.{Key}
+use Rattle.key.specs.declared.header.Header.{Header}
 use Rattle.key.specs.declared.header.Header.the-variants.{Good, Bad}
+use Rattle.key.proofs.Headers.{from-good, sum-next}
 use Rattle.key.specs.declared.piece.Piece.the-variants.{Record, Gap, Refused}
 use Rattle.layout.specs.Name.{named, tFile, tDirectory, tList, streamerInfo}
 use Rattle.layout.proofs.Spans.{and-true}
 use Rattle.layout.specs.Dir.{headRecord, headOf, headDirIn}
-use Rattle.layout.specs.Keys.{listClass, listFits, listOf, freeFits, freeOf, freeIn, infoFits, infoOf, plainOr, copyIn}
+use Rattle.layout.specs.Keys.{listClass, listFits, listOf, freeFits, freeOf, freeIn, listIn, infoFits, infoOf, plainOr, copyIn}
 use Rattle.layout.specs.declared.copies.Data.the-variants as held
 use Rattle.layout.specs.declared.dirs.Dir.{Dir}
 use Rattle.layout.specs.declared.dirs.Dir.the-variants as dir
@@ -110,3 +112,42 @@ data-lies s p n (Refused c q) i e = let z : _≡_ {A = ℕ} 0 1 = cc in absurd (
 pub free-lies : (s : List ℕ) (p n : ℕ) {a end : ℕ} → held.Held a end ≡ freeIn s p n → (a ≤ end) × (end ≤ length s)
 unfolding freeIn
 free-lies s p n e = data-lies s p n (pieceAt s p) refl e
+
+-- so does the data of a keys list
+keys-lie : (s : List ℕ) (p n d : ℕ) (r : Piece) {a end : ℕ} → pieceAt s p ≡ r → held.Held a end ≡ listOf s p n d r
+    → (a ≤ end) × (end ≤ length s)
+keys-lie s p n d (Record k) {a} {end} i e =
+    let f = from-picked (listFits s k n d) (held.Held (p + k .keylen) (p + k .nbytes)) held.Bad e (λ i. let z : _≡_ {A = ℕ} 0 1 = cc in omega arith) in
+    let g = f .0 in
+    let l = record-there s p i in
+    let x : a ≡ p + k .keylen = cc in
+    let y : end ≡ p + k .nbytes = cc in
+    (omega arith, omega arith)
+keys-lie s p n d (Gap m) i e = let z : _≡_ {A = ℕ} 0 1 = cc in absurd (omega arith)
+keys-lie s p n d (Refused c q) i e = let z : _≡_ {A = ℕ} 0 1 = cc in absurd (omega arith)
+
+pub list-lies : (s : List ℕ) (p n d : ℕ) {a end : ℕ} → held.Held a end ≡ listIn s p n d → (a ≤ end) × (end ≤ length s)
+unfolding listIn
+list-lies s p n d e = keys-lie s p n d (pieceAt s p) refl e
+
+-- a copy that was read is a header, and plain
+from-copy-by : (s : List ℕ) (p end : ℕ) (x : Header) {k : Key} → headerIn s p end ≡ x → Good k ≡ plainOr x
+    → (Good k ≡ headerIn s p end) × (k .keylen ≡ sumOf k)
+from-copy-by s p end (Good l) {k} i e =
+    let f = from-picked (Check.eq (l .keylen) (sumOf l) ∷ []) (Good l) Bad e (λ i. let z : _≡_ {A = ℕ} 0 1 = cc in omega arith) in
+    let g = f .0 in
+    let y : k ≡ l = cc in
+    (g ∙ sym i, rw y (f .1 .0))
+from-copy-by s p end Bad i e = let z : _≡_ {A = ℕ} 0 1 = cc in absurd (omega arith)
+
+pub from-copy : (s : List ℕ) (p end : ℕ) {k : Key} → Good k ≡ copyIn s p end → (Good k ≡ headerIn s p end) × (k .keylen ≡ sumOf k)
+unfolding copyIn
+from-copy s p end e = from-copy-by s p end (headerIn s p end) refl e
+
+-- it lies before the end, and in the file
+pub copy-lies : (s : List ℕ) (p end : ℕ) {k : Key} → Good k ≡ copyIn s p end → (p + k .keylen ≤ end) × (end ≤ length s)
+copy-lies s p end {k} e =
+    let f = from-copy s p end e in
+    let g = from-good s p end (f .0) in
+    let x = f .1 ∙ ap sumOf (g .0) in
+    (omega (arith, g .1 .1 .0, sum-next s p), g .1 .0)

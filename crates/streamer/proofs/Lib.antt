@@ -1,4 +1,3 @@
-mod Examples
 pub mod Steps
 pub mod Words
 pub mod Tables

@@ -1,8 +1,7 @@
 use borrow.Author.Needs.{needs}
 use Prim.Native.Nat.{_-_}
 use mathlib.Core.Path.{_∙_, sym, ap}
-use Rattle.audit.specs.Partition.{stepOf}
-use borrow.Author.Needs.{needs}
+use Rattle.audit.specs.Walk.{stepOf}
 use Rattle.audit.proofs.chain.size_at.Statement.{statement}
 use Rattle.audit.proofs.chain.size_at.Tie as tie
 

@@ -5,12 +5,14 @@ use Prim.Native.Nat.{_-_}
 use mathlib.Core.Path.{_∙_, sym}
 use Rattle.audit.proofs.Frees.{free-is-head, free-nowhere, free-bad, free-count, free-segments}
 use Rattle.layout.proofs.Records.{free-lies}
-use borrow.Author.Needs.{needs}
 use Rattle.audit.proofs.lists.check_free.Statement.{statement}
 use Rattle.audit.proofs.lists.check_free.Tie as tie
 
 returns : tie.Need-returns
 returns c = free-is-head _ _ _ (omega arith)
+
+cast-find-row : tie.Need-cast-find-row
+cast-find-row c = search needs
 
 find-row-requires : tie.Need-find-row-requires
 find-row-requires c κs = search needs
@@ -65,6 +67,7 @@ check-free-spec =
     tie.close
     (tie.spec
     returns
+    cast-find-row
     find-row-requires
     enum-told
     enum-told-2

@@ -2,7 +2,6 @@ use native.Mathlib.Omega.{arith}
 use borrow.Author.Needs.{needs}
 use Prim.Native.Nat.{_-_}
 use Rattle.audit.proofs.Frees.{no-info, info-nowhere, info-at}
-use borrow.Author.Needs.{needs}
 use Rattle.audit.proofs.lists.check_info.Statement.{statement}
 use Rattle.audit.proofs.lists.check_info.Tie as tie
 
@@ -17,6 +16,9 @@ add-if1 c = search needs
 
 returns : tie.Need-returns
 returns c = no-info _ _ _ (omega arith)
+
+cast-find-row : tie.Need-cast-find-row
+cast-find-row c = search needs
 
 find-row-requires : tie.Need-find-row-requires
 find-row-requires c κs = search needs
@@ -47,6 +49,7 @@ check-info-spec =
     cast-if1-2
     add-if1
     returns
+    cast-find-row
     find-row-requires
     enum-told
     enum-told-2

@@ -5,8 +5,7 @@ use Prim.Native.Nat.{_-_}
 use mathlib.Core.Path.{sym}
 use Rattle.audit.proofs.Frees.{last-decides}
 use Rattle.wire.proofs.Checks.{not-all}
-use Rattle.audit.specs.Free.{segmentFits}
-use borrow.Author.Needs.{needs}
+use Rattle.rules.specs.Free.{segmentFits}
 use Rattle.audit.proofs.lists.is_segment.Statement.{statement}
 use Rattle.audit.proofs.lists.is_segment.Tie as tie
 

@@ -1,15 +1,17 @@
+use Prim.Native.Nat.{_-_}
+use lib.ListN.{length}
+use Rattle.audit.proofs.Searches.{Between, began, go-up, go-down, none}
 use native.Mathlib.Omega.{arith}
 use borrow.Author.Needs.{needs}
-use Prim.Native.Nat.{_-_}
-use Rattle.audit.proofs.Searches.{Between, began, go-up, go-down, none}
 use Rattle.audit.proofs.rows.find_row.Statement.{statement}
 use Rattle.audit.proofs.rows.find_row.Tie as tie
+use Rattle.audit.proofs.rows.long.Reads as long-reads
 
 abbrev Inv-loop : tie.InvT-loop
-Inv-loop start n place lo₀ hi₀ lo hi = Between start n place lo hi
+Inv-loop start place lo₀ hi₀ lo hi = Between start (length start) place lo hi
 
 abbrev μ-loop : tie.MeasureT-loop
-μ-loop start n place lo₀ hi₀ lo hi = hi - lo
+μ-loop start place lo₀ hi₀ lo hi = hi - lo
 
 loop-holds : tie.Need-loop-holds Inv-loop μ-loop
 loop-holds c = began _ _ _
@@ -20,11 +22,14 @@ sub-mid c = search needs
 add-mid : tie.Need-add-mid Inv-loop μ-loop
 add-mid c = search needs
 
-mul-s : tie.Need-mul-s Inv-loop μ-loop
-mul-s c = search needs
+mul-long : tie.Need-mul-long Inv-loop μ-loop
+mul-long c = search needs
 
-shared-slice-read-s : tie.Need-shared-slice-read-s Inv-loop μ-loop
-shared-slice-read-s c = search needs
+shared-slice-read-long : tie.Need-shared-slice-read-long Inv-loop μ-loop
+shared-slice-read-long c = search needs
+
+long-requires : tie.Need-long-requires Inv-loop μ-loop
+long-requires c κs = search needs
 
 returns : tie.Need-returns Inv-loop μ-loop
 returns c = search needs
@@ -36,13 +41,13 @@ loop-less : tie.Need-loop-less Inv-loop μ-loop
 loop-less c = search needs
 
 loop-again : tie.Need-loop-again Inv-loop μ-loop
-loop-again c = go-up (c .before .before .before .before .before .pre .1) (c .before .before .before .before .loop .inv) _ (omega arith) (omega arith) (omega arith)
+loop-again c = go-up (c .before .before .before .before .before .before .before .pre) (c .before .before .before .before .before .loop .inv) _ (omega arith) (omega arith) (omega arith)
 
 loop-less-2 : tie.Need-loop-less-2 Inv-loop μ-loop
 loop-less-2 c = search needs
 
 loop-again-2 : tie.Need-loop-again-2 Inv-loop μ-loop
-loop-again-2 c = go-down (c .before .before .before .before .before .pre .1) (c .before .before .before .before .loop .inv) _ (omega arith) (omega arith) (omega arith) (λ e. omega arith)
+loop-again-2 c = go-down (c .before .before .before .before .before .before .before .pre) (c .before .before .before .before .before .loop .inv) _ (omega arith) (omega arith) (omega arith) (λ e. omega arith)
 
 returns-2 : tie.Need-returns-2 Inv-loop μ-loop
 returns-2 c = none (c .before .loop .inv) (omega arith)
@@ -56,8 +61,9 @@ find-row-spec =
     loop-holds
     sub-mid
     add-mid
-    mul-s
-    shared-slice-read-s
+    mul-long
+    shared-slice-read-long
+    long-requires
     returns
     add-lo
     loop-less

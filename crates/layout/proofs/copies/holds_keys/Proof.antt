@@ -1,6 +1,5 @@
 use borrow.Author.Needs.{needs}
 use Rattle.layout.proofs.Records.{is-first, is-second}
-use borrow.Author.Needs.{needs}
 use Rattle.layout.proofs.copies.holds_keys.Statement.{statement}
 use Rattle.layout.proofs.copies.holds_keys.Tie as tie
 

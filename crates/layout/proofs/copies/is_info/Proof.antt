@@ -6,7 +6,6 @@ use Rattle.key.specs.Header.{plain}
 use Rattle.key.proofs.Others.{if-other, if-record}
 use Rattle.layout.specs.Keys.{infoOf, infoIn}
 use Rattle.layout.proofs.Records.{failed, fails, passes-all, no-info, an-info}
-use borrow.Author.Needs.{needs}
 use Rattle.layout.proofs.copies.is_info.Statement.{statement}
 use Rattle.layout.proofs.copies.is_info.Tie as tie
 

@@ -2,7 +2,6 @@ use borrow.Author.Needs.{needs}
 use mathlib.Core.Path.{_∙_, sym}
 use Rattle.key.specs.Header.{plain}
 use Rattle.layout.proofs.Records.{fails, passes-all, no-copy, not-plain, a-copy}
-use borrow.Author.Needs.{needs}
 use Rattle.layout.proofs.copies.read_copy.Statement.{statement}
 use Rattle.layout.proofs.copies.read_copy.Tie as tie
 

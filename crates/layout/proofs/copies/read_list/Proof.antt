@@ -7,7 +7,6 @@ use Rattle.key.proofs.Others.{if-other, if-record, record-lies}
 use Rattle.layout.specs.Keys.{listOf, listIn}
 use Rattle.layout.specs.declared.copies.Data.the-variants as held
 use Rattle.layout.proofs.Records.{failed, passed, fails, passes-all, no-list, a-list}
-use borrow.Author.Needs.{needs}
 use Rattle.layout.proofs.copies.read_list.Statement.{statement}
 use Rattle.layout.proofs.copies.read_list.Tie as tie
 

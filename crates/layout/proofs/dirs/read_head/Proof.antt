@@ -7,7 +7,6 @@ use Rattle.key.proofs.Others.{if-other, if-record}
 use Rattle.layout.specs.Dir.{headOf, headIn}
 use Rattle.layout.specs.declared.dirs.Dir.the-variants as dir
 use Rattle.layout.proofs.Records.{failed, passed, fails, passes-all, no-head, a-head}
-use borrow.Author.Needs.{needs}
 use Rattle.layout.proofs.dirs.read_head.Statement.{statement}
 use Rattle.layout.proofs.dirs.read_head.Tie as tie
 

@@ -8,7 +8,6 @@ use Rattle.layout.specs.Dir.{subOf, subIn}
 use Rattle.layout.specs.declared.dirs.Dir.the-variants as dir
 use Rattle.layout.proofs.Records.{fails, passes-all}
 use Rattle.layout.proofs.Headings.{no-sub, no-sub-header, subbed, a-sub}
-use borrow.Author.Needs.{needs}
 use Rattle.layout.proofs.dirs.read_sub.Statement.{statement}
 use Rattle.layout.proofs.dirs.read_sub.Tie as tie
 

@@ -1,0 +1,191 @@
+-- One copy of a keys list, and copies one after the other.
+use Prim.Native.Nat.{ℕ, suc, _+_, _-_, _<_, _≤_}
+use mathlib.Core.Bool.{Bool, true, false, not}
+use mathlib.Core.List.{List}
+use mathlib.Core.Path.{_≡_, refl, sym, ap, _∙_, subst}
+use native.Mathlib.Omega.{arith}
+use borrow.Author.Tests.{eq-eqb, ne-eqb}
+use lib.Dec.{T}
+use lib.ListN.{length, getD, set, length-set}
+use lib.Seq.{getD-set-other}
+use Rattle.wire.specs.Check.{All, pick}
+use Rattle.wire.proofs.Checks.{yes-all, not-all}
+use Rattle.key.specs.Piece.{pieceAt}
+use Rattle.key.specs.declared.header.Key.{Key}
+use Rattle.key.specs.declared.header.Header.the-variants.{Good, Bad}
+use Rattle.key.specs.declared.piece.Piece.the-variants.{Record}
+use Rattle.layout.specs.Keys.{copyIn}
+use Rattle.layout.specs.Name.{sameBytes, named, tDirectory}
+use Rattle.layout.proofs.Records.{passed}
+use Rattle.rules.specs.Entry.{isRecord, entryFits}
+use Rattle.rules.specs.Row.{starts, rowOf}
+use Rattle.rules.specs.Turn.{Turn, going, stop, andThen, give, listedMark, onCopy, copyTurn, copies}
+use Rattle.rules.proofs.Rows.{start-there, no-start, row-of}
+use Rattle.audit.specs.Listing.{Ran, Quiet, Tables}
+use Rattle.audit.specs.Row.{RowOf}
+use Rattle.audit.specs.declared.rows.Row.{Row}
+use Rattle.audit.specs.declared.rows.Row.the-variants.{At, Nothing}
+use Rattle.audit.specs.declared.keys.Listed.{Listed}
+use Rattle.audit.specs.declared.keys.Listed.the-variants.{Next, Fault}
+
+-- an answer that is a turn's
+pub ran-next : (ps os : List ℕ) (c low : ℕ) {x : Turn} → x ≡ going ps os c → Ran x (Next c low) ps os
+unfolding Ran
+ran-next ps os c low e = rw e (refl, (refl, refl))
+
+pub ran-fault : (us vs : List ℕ) (n p : ℕ) {x : Turn} → x ≡ stop n p → Ran x (Fault n p) us vs
+unfolding Ran
+ran-fault us vs n p e = rw e (refl, refl)
+
+pub as-turn : {x y : Turn} (r : Listed) (us vs : List ℕ) → y ≡ x → Ran x r us vs → Ran y r us vs
+as-turn r us vs e h = rw e h
+
+pub next-is : (x : Turn) (us vs : List ℕ) (at low : ℕ) → Ran x (Next at low) us vs → x ≡ going us vs at
+unfolding Ran
+next-is (going ps os c) us vs at low h = sym (λ i. going (h .1 .0 i) (h .1 .1 i) (h .0 i))
+next-is (stop n p) us vs at low h = absurd h
+
+pub fault-is : (x : Turn) (us vs : List ℕ) (n p : ℕ) → Ran x (Fault n p) us vs → x ≡ stop n p
+unfolding Ran
+fault-is (going ps os c) us vs n p h = absurd h
+fault-is (stop m q) us vs n p h = sym (λ i. stop (h .0 i) (h .1 i))
+
+-- a refusal tells no row
+pub quiet-fault : (ps us : List ℕ) (n p : ℕ) → Quiet ps us (Fault n p)
+unfolding Quiet
+quiet-fault ps us n p = tt
+
+abbrev pub Below : List ℕ → List ℕ → ℕ → Type 0
+Below ps us low = (i : ℕ) → i < low → 8 ≤ getD us i 0 → 8 ≤ getD ps i 0
+
+pub quiet-next : (ps us : List ℕ) (at low : ℕ) → Below ps us low → Quiet ps us (Next at low)
+unfolding Quiet
+quiet-next ps us at low h = h
+
+pub from-quiet : (ps us : List ℕ) (at low : ℕ) → Quiet ps us (Next at low) → Below ps us low
+unfolding Quiet
+from-quiet ps us at low h = h
+
+pub faulted : (ps us vs : List ℕ) (n p : ℕ) {x : Turn} → x ≡ stop n p → Ran x (Fault n p) us vs × Quiet ps us (Fault n p)
+faulted ps us vs n p e = (ran-fault us vs n p e, quiet-fault ps us n p)
+
+-- tables of the same lengths
+pub tables-kept : {qs ps os us vs : List ℕ} → Tables qs ps os → length us ≡ length ps → length vs ≡ length os → Tables qs us vs
+tables-kept t e f = record { rising = t .rising; parts = e ∙ t .parts; owners = f ∙ t .owners }
+
+pub tables-set : (qs ps os : List ℕ) (i m d : ℕ) → Tables qs ps os → Tables qs (set ps i m) (set os i d)
+tables-set qs ps os i m d t = tables-kept t (length-set ps i m) (length-set os i d)
+
+-- a row that was sought
+pub record Sought (qs ps os : List ℕ) (p i : ℕ) : Type 0 where
+  pub part : i < length ps
+  pub owner : i < length os
+  pub row : rowOf qs p ≡ i
+  pub start : starts qs p ≡ true
+
+pub sought : (qs ps os : List ℕ) (p i : ℕ) {r : Row} → Tables qs ps os → RowOf qs p r → r ≡ At i → Sought qs ps os p i
+sought qs ps os p i t h e =
+    let g : RowOf qs p (At i) = rw e at h in
+    record {
+      part = omega (arith, g .0, t .parts);
+      owner = omega (arith, g .0, t .owners);
+      row = row-of qs p i (t .rising) (g .0) (g .1);
+      start = start-there qs p i (g .0) (g .1);
+    }
+
+pub no-row : (qs : List ℕ) (p : ℕ) {r : Row} → RowOf qs p r → r ≡ Nothing → starts qs p ≡ false
+no-row qs p h e = no-start qs p (rw e at h)
+
+pub never : (b : Bool) {A : Type 0} → b ≡ false → b ≡ true → A
+never b e f = absurd (subst T (sym (sym e ∙ f)) tt)
+
+-- the part of a listed record
+pub mark-is : (s : List ℕ) (p : ℕ) {k : Key} {m : ℕ} → pieceAt s p ≡ Record k → m ≡ pick (named s (k .class) tDirectory) 14 5
+    → m ≡ listedMark s p
+unfolding listedMark
+mark-is s p e f = rw e f
+
+pub marked : (b : Bool) {n : Bool} → b ≡ n → b ≡ true → _≡_ {A = ℕ} 14 (pick n 14 5)
+marked b e f = rw (sym e ∙ f)
+
+pub not-marked : (b : Bool) {n : Bool} → b ≡ n → b ≡ false → _≡_ {A = ℕ} 5 (pick n 14 5)
+not-marked b e f = rw (sym e ∙ f)
+
+-- the tests that a copy passed
+pub entry : (s qs : List ℕ) (d c : ℕ) (k : Key) {l : Key} {b : Bool} → starts qs (k .seekkey) ≡ true → pieceAt s (k .seekkey) ≡ Record l
+    → b ≡ sameBytes s c (k .seekkey) (k .keylen) → not b ≡ false → k .seekpdir ≡ d → All (entryFits s qs d c k)
+entry s qs d c k st e f g h = (st, (ap isRecord e, (passed _ _ f g, (h, tt))))
+
+-- one copy
+module _ (s qs : List ℕ) (d seek end : ℕ) (ps os : List ℕ) (c : ℕ) where
+  pub copy-bad : Bad ≡ copyIn s c end → copyTurn s qs d seek end ps os c ≡ stop 12 seek
+  unfolding copyTurn
+  copy-bad e = ap (onCopy s qs d seek c ps os) (sym e)
+
+  module _ {k : Key} (e : Good k ≡ copyIn s c end) where
+    by-key : copyTurn s qs d seek end ps os c ≡ onCopy s qs d seek c ps os (Good k)
+    unfolding copyTurn
+    by-key = ap (onCopy s qs d seek c ps os) (sym e)
+
+    pub copy-wrong : (All (entryFits s qs d c k) → ⊥) → copyTurn s qs d seek end ps os c ≡ stop 13 c
+    copy-wrong h = by-key ∙ rw (not-all (entryFits s qs d c k) h)
+
+    module _ (h : All (entryFits s qs d c k)) {i : ℕ} (o : rowOf qs (k .seekkey) ≡ i) where
+      by-row : copyTurn s qs d seek end ps os c ≡ give i (listedMark s (k .seekkey)) d (c + k .keylen) c ps os
+      by-row = by-key ∙ rw (yes-all (entryFits s qs d c k) h, o)
+
+      pub copy-taken : (getD ps i 0 ≡ 7 → ⊥) → copyTurn s qs d seek end ps os c ≡ stop 14 c
+      copy-taken z = by-row ∙ rw (ne-eqb (getD ps i 0) 7 z)
+
+      pub copy-given : {m : ℕ} → getD ps i 0 ≡ 7 → m ≡ listedMark s (k .seekkey)
+          → copyTurn s qs d seek end ps os c ≡ going (set ps i m) (set os i d) (c + k .keylen)
+      copy-given z f = by-row ∙ rw (eq-eqb (getD ps i 0) 7 z, f)
+
+-- a row that is set: below it nothing changes
+pub given : (ps os : List ℕ) (i m d c : ℕ) {x : Turn} → x ≡ going (set ps i m) (set os i d) c
+    → Ran x (Next c i) (set ps i m) (set os i d) × Quiet ps (set ps i m) (Next c i)
+given ps os i m d c e =
+    (ran-next (set ps i m) (set os i d) c i e, quiet-next ps (set ps i m) c i (λ j l h. rw (getD-set-other ps i j m 0 (λ f. omega arith)) at h))
+
+-- while copies are listed: what is left decides
+pub record Copying (s qs : List ℕ) (d seek end count : ℕ) (ps os : List ℕ) (from left : ℕ) (us vs : List ℕ) (at low : ℕ) : Type 0 where
+  pub run : copies s qs d seek end count ps os from ≡ copies s qs d seek end left us vs at
+  pub parts : length us ≡ length ps
+  pub owners : length vs ≡ length os
+  pub quiet : Below ps us low
+
+pub began : (s qs : List ℕ) (d seek end count : ℕ) (ps os : List ℕ) (from low : ℕ)
+    → Copying s qs d seek end count ps os from count ps os from low
+began s qs d seek end count ps os from low = record { run = refl; parts = refl; owners = refl; quiet = λ i l h. h }
+
+module _ {s qs : List ℕ} {d seek end count : ℕ} {ps os : List ℕ} {from left : ℕ} {us vs : List ℕ} {at low : ℕ}
+    (w : Copying s qs d seek end count ps os from left us vs at low) where
+  one-left : 0 < left → copies s qs d seek end count ps os from ≡ andThen (copies s qs d seek end (left - 1)) (copyTurn s qs d seek end us vs at)
+  unfolding copies
+  one-left l =
+      let e : left ≡ suc (left - 1) = omega arith in
+      w .run ∙ ap (λ (n : ℕ). copies s qs d seek end n us vs at) e
+
+  pub copied : 0 < left → (r : Listed) (us′ vs′ : List ℕ) (low′ : ℕ) {next row : ℕ} → r ≡ Next next row
+      → Ran (copyTurn s qs d seek end us vs at) r us′ vs′ × Quiet us us′ r → length us′ ≡ length us → length vs′ ≡ length vs
+      → low′ ≤ low → low′ ≤ row → Copying s qs d seek end count ps os from (left - 1) us′ vs′ next low′
+  copied l r us′ vs′ low′ {next} {row} e h m n k o =
+      let f = next-is (copyTurn s qs d seek end us vs at) us′ vs′ next row (rw e at (h .0)) in
+      let g = from-quiet us us′ next row (rw e at (h .1)) in
+      record {
+        run = one-left l ∙ ap (andThen (copies s qs d seek end (left - 1))) f;
+        parts = m ∙ w .parts;
+        owners = n ∙ w .owners;
+        quiet = λ i z y. w .quiet i (omega arith) (g i (omega arith) y);
+      }
+
+  pub cut-short : 0 < left → (r : Listed) (us′ vs′ : List ℕ) {n p : ℕ} → r ≡ Fault n p → Ran (copyTurn s qs d seek end us vs at) r us′ vs′
+      → Ran (copies s qs d seek end count ps os from) r us′ vs′ × Quiet ps us′ r
+  cut-short l r us′ vs′ {n} {p} e h =
+      let f = fault-is (copyTurn s qs d seek end us vs at) us′ vs′ n p (rw e at h) in
+      rw e (faulted ps us′ vs′ n p (one-left l ∙ ap (andThen (copies s qs d seek end (left - 1))) f))
+
+  pub all-copied : left ≡ 0 → Ran (copies s qs d seek end count ps os from) (Next at low) us vs × Quiet ps us (Next at low)
+  unfolding copies
+  all-copied e =
+      (ran-next us vs at low (w .run ∙ ap (λ (n : ℕ). copies s qs d seek end n us vs at) e), quiet-next ps us at low (w .quiet))

@@ -1,0 +1,236 @@
+-- A directory's keys list, its turn, and the directories one after the other.
+use Prim.Native.Nat.{ℕ, suc, _+_, _-_, _<_, _≤_}
+use mathlib.Core.Bool.{Bool, true, false}
+use mathlib.Core.List.{List}
+use mathlib.Core.Logic.{⊎-elim}
+use mathlib.Core.Path.{_≡_, refl, sym, ap, _∙_}
+use native.Mathlib.Nat.{eq-or-lt-of-le}
+use native.Mathlib.Omega.{arith}
+use borrow.Author.Tests.{eq-eqb, ne-eqb, eqb-true, eqb-false, le-leb, lt-leb}
+use lib.Dec.{eqb}
+use lib.ListN.{length, getD, set, length-set}
+use lib.Seq.{getD-set-same, getD-set-other}
+use Rattle.wire.specs.Number.{numAt}
+use Rattle.wire.proofs.Checks.{yes-all, not-all, below-or}
+use Rattle.layout.specs.Dir.{headIn, subIn}
+use Rattle.layout.specs.Keys.{listIn}
+use Rattle.layout.specs.declared.copies.Data.{Data}
+use Rattle.layout.specs.declared.copies.Data.the-variants as span
+use Rattle.layout.specs.declared.dirs.Dir.{Dir}
+use Rattle.layout.specs.declared.dirs.Dir.the-variants as dir
+use Rattle.layout.specs.declared.dirs.DirHead.{DirHead}
+use Rattle.layout.specs.declared.file.FileHead.{FileHead}
+use Rattle.rules.specs.Row.{starts, rowOf}
+use Rattle.rules.specs.Rules.{dirOf, noKeys}
+use Rattle.rules.specs.Turn.{Turn, going, stop, andThen, give, copies, ended, dataTurn, onData, keysIn, keysTurn, onDir, dirTurn, settle, roundTurn, nextRow, rounds}
+use Rattle.rules.proofs.Rows.{next-row-at, next-row-none, next-row, rounds-over, rounds-more}
+use Rattle.audit.specs.Listing.{Ran, Quiet, Done, DoneTo, Tables}
+use Rattle.audit.specs.declared.keys.Listed.{Listed}
+use Rattle.audit.specs.declared.keys.Listed.the-variants.{Next, Fault}
+use Rattle.audit.proofs.Listings.{ran-next, ran-fault, next-is, fault-is, quiet-next, from-quiet, faulted, tables-kept, Below}
+
+-- the data of a keys list
+module _ (s qs : List ℕ) (d seek a end : ℕ) (ps os : List ℕ) (c : ℕ) where
+  pub data-short : end < a + 4 → dataTurn s qs d seek a end ps os c ≡ stop 12 seek
+  unfolding dataTurn
+  data-short l = rw (lt-leb (a + 4) end l)
+
+  module _ (l : a + 4 ≤ end) {n : ℕ} (e : n ≡ numAt 4 s a) where
+    by-copies : dataTurn s qs d seek a end ps os c ≡ andThen (ended seek end) (copies s qs d seek end n ps os c)
+    unfolding dataTurn
+    by-copies = rw (le-leb (a + 4) end l, e)
+
+    module _ (r : Listed) (us vs : List ℕ) (h : Ran (copies s qs d seek end n ps os c) r us vs × Quiet ps us r) where
+      pub data-fault : {m p : ℕ} → r ≡ Fault m p → Ran (dataTurn s qs d seek a end ps os c) r us vs × Quiet ps us r
+      data-fault {m} {p} f =
+          let g = fault-is (copies s qs d seek end n ps os c) us vs m p (rw f at (h .0)) in
+          rw f (faulted ps us vs m p (by-copies ∙ ap (andThen (ended seek end)) g))
+
+      module _ {at low : ℕ} (f : r ≡ Next at low) where
+        at-end : dataTurn s qs d seek a end ps os c ≡ ended seek end us vs at
+        at-end = by-copies ∙ ap (andThen (ended seek end)) (next-is (copies s qs d seek end n ps os c) us vs at low (rw f at (h .0)))
+
+        pub data-left : (at ≡ end → ⊥) → Ran (dataTurn s qs d seek a end ps os c) (Fault 12 seek) us vs × Quiet ps us (Fault 12 seek)
+        data-left z = faulted ps us vs 12 seek (at-end ∙ rw (ne-eqb at end z))
+
+        pub data-ended : at ≡ end → Ran (dataTurn s qs d seek a end ps os c) (Next at low) us vs × Quiet ps us (Next at low)
+        data-ended z = (ran-next us vs at low (at-end ∙ rw (eq-eqb at end z)), rw f at (h .1))
+
+-- the keys list, from the row of its record
+module _ (s qs : List ℕ) (d : ℕ) (dh : DirHead) (ps os : List ℕ) where
+  pub no-keys : dh .seekkeys + dh .nbyteskeys ≡ 0 → keysTurn s qs d dh ps os ≡ going ps os 0
+  unfolding keysTurn
+  no-keys e = rw (yes-all (noKeys dh) (omega arith))
+
+  module _ (z : dh .seekkeys + dh .nbyteskeys ≡ 0 → ⊥) where
+    by-data : {x : Data} → keysIn s qs d dh ≡ x → keysTurn s qs d dh ps os ≡ onData s qs d (dh .seekkeys) ps os x
+    unfolding keysTurn
+    by-data e = rw (not-all (noKeys dh) (λ a. z (omega (arith, a)))) (ap (onData s qs d (dh .seekkeys) ps os) e)
+
+    nowhere : starts qs (dh .seekkeys) ≡ false → keysIn s qs d dh ≡ span.Bad
+    unfolding keysIn
+    nowhere e = rw e
+
+    somewhere : starts qs (dh .seekkeys) ≡ true → keysIn s qs d dh ≡ listIn s (dh .seekkeys) (dh .nbyteskeys) d
+    unfolding keysIn
+    somewhere e = rw e
+
+    pub keys-nowhere : starts qs (dh .seekkeys) ≡ false → keysTurn s qs d dh ps os ≡ stop 12 (dh .seekkeys)
+    keys-nowhere e = by-data (nowhere e)
+
+    module _ (e : starts qs (dh .seekkeys) ≡ true) {p : ℕ} (f : p ≡ d) where
+      pub keys-bad : span.Bad ≡ listIn s (dh .seekkeys) (dh .nbyteskeys) p → keysTurn s qs d dh ps os ≡ stop 12 (dh .seekkeys)
+      keys-bad g = by-data (somewhere e ∙ rw f at (sym g))
+
+      module _ {a end : ℕ} (g : span.Held a end ≡ listIn s (dh .seekkeys) (dh .nbyteskeys) p) {i : ℕ}
+          (o : rowOf qs (dh .seekkeys) ≡ i) where
+        by-row : keysTurn s qs d dh ps os
+            ≡ andThen (dataTurn s qs d (dh .seekkeys) a end) (give i 4 d (a + 4) d ps os)
+        by-row = by-data (somewhere e ∙ rw f at (sym g)) ∙ rw o refl
+
+        pub keys-taken : (getD ps i 0 ≡ 7 → ⊥) → keysTurn s qs d dh ps os ≡ stop 14 d
+        keys-taken h = by-row ∙ rw (ne-eqb (getD ps i 0) 7 h)
+
+        pub keys-given : getD ps i 0 ≡ 7
+            → keysTurn s qs d dh ps os ≡ dataTurn s qs d (dh .seekkeys) a end (set ps i 4) (set os i d) (a + 4)
+        keys-given h = by-row ∙ rw (eq-eqb (getD ps i 0) 7 h)
+
+-- a row that was given part 4 holds no directory
+below-set : (ps us : List ℕ) (i low : ℕ) → i < length ps → Below (set ps i 4) us low → Below ps us low
+below-set ps us i low l b j k h = go (eqb j i) refl
+  where
+    go : (t : Bool) → eqb j i ≡ t → 8 ≤ getD ps j 0
+    go true e = absurd (omega (arith, b j k h, getD-set-same ps i 4 0 l, ap (λ (n : ℕ). getD (set ps i 4) n 0) (eqb-true j i e)))
+    go false e = rw (getD-set-other ps i j 4 0 (eqb-false j i e)) at (b j k h)
+
+quiet-set : (ps us : List ℕ) (i : ℕ) (r : Listed) → i < length ps → Quiet (set ps i 4) us r → Quiet ps us r
+unfolding Quiet
+quiet-set ps us i (Next at low) l h = below-set ps us i low l h
+quiet-set ps us i (Fault n p) l h = tt
+
+pub keys-ran : (ps us vs : List ℕ) (i : ℕ) (r : Listed) {x y : Turn} → i < length ps → x ≡ y → Ran y r us vs × Quiet (set ps i 4) us r
+    → Ran x r us vs × Quiet ps us r
+keys-ran ps us vs i r l e h = (rw e (h .0), quiet-set ps us i r l (h .1))
+
+pub nothing-new : (ps os : List ℕ) (c low : ℕ) {x : Turn} → x ≡ going ps os c → Ran x (Next c low) ps os × Quiet ps ps (Next c low)
+nothing-new ps os c low e = (ran-next ps os c low e, quiet-next ps ps c low (λ i l h. h))
+
+-- the header of the directory at a place
+module _ (s : List ℕ) (h : FileHead) (p parent : ℕ) where
+  pub head-dir : {r : Dir} → p ≡ 100 → r ≡ headIn s (h .nbytesname) → r ≡ dirOf s h p parent
+  unfolding dirOf
+  head-dir e f = rw (eq-eqb p 100 e) f
+
+  pub sub-dir : {r : Dir} {q o : ℕ} → (p ≡ 100 → ⊥) → q ≡ p → o ≡ parent → r ≡ subIn s q o → r ≡ dirOf s h p parent
+  unfolding dirOf
+  sub-dir z e g f = rw (ne-eqb p 100 z) (f ∙ rw (e, g) refl)
+
+-- the directory in a row
+module _ (s : List ℕ) (h : FileHead) (qs : List ℕ) (row : ℕ) (ps os : List ℕ) where
+  pub dir-bad : {p : ℕ} → p ≡ getD qs row 0 → dir.Bad ≡ dirOf s h (getD qs row 0) (getD os row 0) → dirTurn s h qs row ps os ≡ stop 11 p
+  unfolding dirTurn
+  dir-bad e f = ap (onDir s qs (getD qs row 0) ps os) (sym f) ∙ ap (stop 11) (sym e)
+
+  pub dir-held : {dh : DirHead} (r : Listed) (us vs : List ℕ) → dir.Held dh ≡ dirOf s h (getD qs row 0) (getD os row 0)
+      → Ran (keysTurn s qs (getD qs row 0) dh ps os) r us vs × Quiet ps us r → Ran (dirTurn s h qs row ps os) r us vs × Quiet ps us r
+  unfolding dirTurn
+  dir-held r us vs f g = (rw (ap (onDir s qs (getD qs row 0) ps os) (sym f)) (g .0), g .1)
+
+-- the rows before one are done
+pub done-more : (ps : List ℕ) (i : ℕ) → Done ps i → i < length ps → getD ps i 0 < 8 → Done ps (i + 1)
+done-more ps i d l h =
+    (omega arith, λ j k. ⊎-elim (λ (e : j ≡ i). rw e h) (λ (m : j < i). d .1 j m) (eq-or-lt-of-le (omega arith)))
+
+pub first-left : (ps : List ℕ) (i : ℕ) → Done ps i → i < length ps → 8 ≤ getD ps i 0 → i ≡ nextRow ps
+first-left ps i d l h = sym (next-row-at ps i l h (d .1))
+
+pub none-left : (ps : List ℕ) (i : ℕ) → Done ps i → length ps ≤ i → i ≡ nextRow ps
+none-left ps i d l = let e : i ≡ length ps = omega (arith, d .0) in e ∙ sym (next-row-none ps (λ j k. d .1 j (omega arith)))
+
+-- a directory that is done
+module _ (s : List ℕ) (h : FileHead) (qs : List ℕ) (row : ℕ) (ps os : List ℕ) (r : Listed) (us vs : List ℕ)
+    (g : Ran (dirTurn s h qs row ps os) r us vs × Quiet ps us r) where
+  pub round-fault : {n p : ℕ} → r ≡ Fault n p → Ran (roundTurn s h qs row ps os) r us vs × DoneTo us r
+  unfolding DoneTo roundTurn
+  round-fault {n} {p} e =
+      let f = fault-is (dirTurn s h qs row ps os) us vs n p (rw e at (g .0)) in
+      rw e (ran-fault us vs n p (ap (andThen (settle row (getD ps row 0 - 8))) f), tt)
+
+  pub round-done : {at low : ℕ} → r ≡ Next at low → (m least : ℕ) → m ≡ getD ps row 0 - 8 → Done ps row → row < length ps
+      → length us ≡ length ps → least ≤ low → least ≤ row
+      → Ran (roundTurn s h qs row ps os) (Next at least) (set us row m) vs × DoneTo (set us row m) (Next at least)
+  unfolding DoneTo roundTurn
+  round-done {at} {low} e m least f d l k o z =
+      let x = next-is (dirTurn s h qs row ps os) us vs at low (rw e at (g .0)) in
+      let y = from-quiet ps us at low (rw e at (g .1)) in
+      let size = length-set us row m in (
+        ran-next (set us row m) vs at least (ap (andThen (settle row (getD ps row 0 - 8))) x ∙ rw f refl),
+        (
+          omega arith,
+          λ i j. rw (getD-set-other us row i m 0 (λ w. omega arith))
+              (⊎-elim (λ (v : getD us i 0 < 8). v) (λ (v : 8 ≤ getD us i 0). absurd (omega (arith, y i (omega arith) v, d .1 i (omega arith))))
+              (below-or (getD us i 0) 8)),
+        ),
+      )
+
+-- while directories are taken: what is left decides
+pub record Rounding (s : List ℕ) (h : FileHead) (qs : List ℕ) (n : ℕ) (ps os : List ℕ) (left : ℕ) (us vs : List ℕ) (at low : ℕ) : Type 0 where
+  pub run : rounds s h qs n ps os 0 ≡ rounds s h qs left us vs at
+  pub parts : length us ≡ length ps
+  pub owners : length vs ≡ length os
+  pub done : Done us low
+
+pub rounds-began : (s : List ℕ) (h : FileHead) (qs : List ℕ) (n : ℕ) (ps os : List ℕ) → Rounding s h qs n ps os n ps os 0 0
+rounds-began s h qs n ps os =
+    record { run = refl; parts = refl; owners = refl; done = (omega arith, λ i l. absurd (omega arith)) }
+
+done-to : (us : List ℕ) (at low : ℕ) → DoneTo us (Next at low) → Done us low
+unfolding DoneTo
+done-to us at low h = h
+
+module _ {s : List ℕ} {h : FileHead} {qs : List ℕ} {n : ℕ} {ps os : List ℕ} {left : ℕ} {us vs : List ℕ} {at low : ℕ}
+    (w : Rounding s h qs n ps os left us vs at low) where
+  pub rounds-ended : left ≡ 0 → Ran (rounds s h qs n ps os 0) (Next at low) us vs
+  unfolding rounds
+  rounds-ended e = ran-next us vs at low (w .run ∙ ap (λ (k : ℕ). rounds s h qs k us vs at) e)
+
+  module _ (l : 0 < left) {row : ℕ} (e : row ≡ nextRow us) where
+    one-left : rounds s h qs n ps os 0 ≡ rounds s h qs (suc (left - 1)) us vs at
+    one-left = let f : left ≡ suc (left - 1) = omega arith in w .run ∙ ap (λ (k : ℕ). rounds s h qs k us vs at) f
+
+    pub rounds-rest : row ≡ length us → Ran (rounds s h qs n ps os 0) (Next at low) us vs
+    rounds-rest f = ran-next us vs at low (one-left ∙ rounds-over s h qs (left - 1) us vs at (sym e ∙ f))
+
+    module _ (z : row ≡ length us → ⊥) where
+      inside : row < length us
+      inside = let i = next-row us .within in omega arith
+
+      pub ready : Tables qs ps os → Tables qs us vs × (row < length qs) × Done us row × (8 ≤ getD us row 0)
+      ready t =
+          let x = next-row us in
+          let y : Tables qs us vs = tables-kept t (w .parts) (w .owners) in (
+            y,
+            omega (arith, inside, y .parts),
+            (omega (arith, inside), λ j k. x .before j (omega arith)),
+            rw e (x .found (omega (arith, inside))),
+          )
+
+      by-round : rounds s h qs n ps os 0 ≡ andThen (rounds s h qs (left - 1)) (roundTurn s h qs row us vs)
+      by-round = one-left ∙ rounds-more s h qs (left - 1) us vs at (sym e) inside
+
+      module _ (r : Listed) (us′ vs′ : List ℕ) (g : Ran (roundTurn s h qs row us vs) r us′ vs′ × DoneTo us′ r) where
+        pub rounds-fault : {c p : ℕ} → r ≡ Fault c p → Ran (rounds s h qs n ps os 0) r us′ vs′
+        rounds-fault {c} {p} f =
+            let x = fault-is (roundTurn s h qs row us vs) us′ vs′ c p (rw f at (g .0)) in
+            rw f (ran-fault us′ vs′ c p (by-round ∙ ap (andThen (rounds s h qs (left - 1))) x))
+
+        pub rounds-again : {next found : ℕ} → r ≡ Next next found → length us′ ≡ length us → length vs′ ≡ length vs
+            → Rounding s h qs n ps os (left - 1) us′ vs′ next found
+        rounds-again {next} {found} f m o =
+            let x = next-is (roundTurn s h qs row us vs) us′ vs′ next found (rw f at (g .0)) in
+            record {
+              run = by-round ∙ ap (andThen (rounds s h qs (left - 1))) x;
+              parts = m ∙ w .parts;
+              owners = o ∙ w .owners;
+              done = done-to us′ next found (rw f at (g .1));
+            }

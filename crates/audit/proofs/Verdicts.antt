@@ -1,0 +1,268 @@
+-- The verdict, case by case, and the tables with it.
+use Prim.Native.Nat.{ℕ, _+_, _-_, _<_, _≤_}
+use mathlib.Core.List.{List, _++_}
+use mathlib.Core.Logic.{_⊎_, inl, inr, ⊎-elim}
+use mathlib.Core.Path.{_≡_, refl, sym, ap, _∙_, subst}
+use native.Mathlib.Omega.{arith}
+use borrow.Author.Tests.{le-leb, lt-leb}
+use lib.ListN.{length, take, replicate, length-take}
+use lib.Dec.{leb}
+use lib.Seq.{take-at, length-take-le}
+use Rattle.wire.specs.Check.{pick}
+use Rattle.wire.specs.Answer.{refusal}
+use Rattle.wire.specs.declared.Answer.{Answer}
+use Rattle.wire.proofs.Checks.{below-or}
+use Rattle.key.specs.Piece.{pieceAt}
+use Rattle.key.specs.declared.piece.Piece.the-variants as piece
+use Rattle.layout.specs.File.{openedAs}
+use Rattle.layout.specs.declared.file.FileHead.{FileHead}
+use Rattle.layout.specs.declared.file.Opened.the-variants as opened
+use Rattle.rules.specs.Order.{Chain, whole, chain, ruled, Verdict, passed, refused, onTurn, onChain, onOpened, lesser, verdict, numberOf, startsOf, partsOf, ownersOf, tableOf}
+use Rattle.rules.specs.Partition.{Partition}
+use Rattle.rules.specs.Turn.{Turn, going, stop}
+use Rattle.rules.proofs.Partitions.{rises}
+use Rattle.rules.proofs.Chains.{chain-whole, chain-fault}
+use Rattle.rules.proofs.Demands.{demand}
+use Rattle.audit.specs.Listing.{Ran, Tables}
+use Rattle.audit.specs.Tables.{roomOf, Answers, Begins, Filled, Audited}
+use Rattle.audit.specs.Walk.{over, Walked}
+use Rattle.audit.specs.declared.chain.Outcome.{Outcome}
+use Rattle.audit.specs.declared.keys.Listed.{Listed}
+use Rattle.audit.specs.declared.chain.Outcome.the-variants as outcome
+use Rattle.audit.specs.declared.keys.Listed.the-variants.{Next, Fault}
+use Rattle.audit.proofs.Partitions.{roomy, length-over}
+
+-- what examine promises
+abbrev pub Examined : Verdict → Answer → List ℕ → List ℕ → List ℕ → Type 0
+Examined v a t u w = Answers v a × Filled v t u w
+
+-- the verdict by cases
+module _ (s : List ℕ) (room : ℕ) where
+  verdict-header : {c : ℕ} → openedAs s ≡ opened.Refused c → verdict s room ≡ refused c 0 0
+  unfolding verdict
+  verdict-header e = ap (onOpened s room) e
+
+  module _ {h : FileHead} (good : openedAs s ≡ opened.Good h) where
+    by-chain : {r : Chain} → chain s (length s) 100 ≡ r → verdict s room ≡ onChain s room h r
+    unfolding verdict
+    by-chain e = ap (onOpened s room) good ∙ ap (onChain s room h) e
+
+    long : length s < length s + 100
+    long = omega arith
+
+    verdict-fault : {c p : ℕ} (qs : List ℕ) → Partition s 100 p qs → p < length s → pieceAt s p ≡ piece.Refused c p
+        → verdict s room ≡ refused c p 0
+    verdict-fault {c} {p} qs h l e = by-chain (chain-fault s 100 qs p (length s) c h l e long)
+
+    module _ (qs : List ℕ) (cut : Partition s 100 (length s) qs) where
+      by-room : verdict s room ≡ pick (leb (length qs) room) (onTurn qs (ruled s h qs)) (refused 7 0 (length qs))
+      by-room = by-chain (chain-whole s 100 qs (length s) cut long)
+
+      verdict-seven : room < length qs → verdict s room ≡ refused 7 0 (length qs)
+      verdict-seven l = by-room ∙ rw (lt-leb (length qs) room l)
+
+      verdict-turn : {t : Turn} → length qs ≤ room → ruled s h qs ≡ t → verdict s room ≡ onTurn qs t
+      verdict-turn l e = by-room ∙ rw (le-leb (length qs) room l, e)
+
+-- a turn, from the answer
+next-by : (t : Turn) (a b : ℕ) (us vs : List ℕ) → Ran t (Next a b) us vs → t ≡ going us vs a
+unfolding Ran
+next-by (going ps os c) a b us vs r = rw (r .0, r .1 .0, r .1 .1)
+next-by (stop n p) a b us vs r = absurd r
+
+ran-next : (t : Turn) (us vs : List ℕ) {a b : ℕ} {r : Listed} → r ≡ Next a b → Ran t r us vs → t ≡ going us vs a
+ran-next t us vs {a} {b} e k = next-by t a b us vs (subst (λ (x : Listed). Ran t x us vs) e k)
+
+fault-by : (t : Turn) (c q : ℕ) (us vs : List ℕ) → Ran t (Fault c q) us vs → t ≡ stop c q
+unfolding Ran
+fault-by (going ps os n) c q us vs r = absurd r
+fault-by (stop n p) c q us vs r = rw (r .0, r .1)
+
+ran-fault : (t : Turn) (us vs : List ℕ) {c q : ℕ} {r : Listed} → r ≡ Fault c q → Ran t r us vs → t ≡ stop c q
+ran-fault t us vs {c} {q} e k = fault-by t c q us vs (subst (λ (x : Listed). Ran t x us vs) e k)
+
+-- what is told of a refusal and of a pass
+module _ {v : Verdict} (t u w : List ℕ) where
+  told-refusal : {c p n : ℕ} → v ≡ refused c p n → (c ≡ 0 → n ≡ 0) → Examined v (record { number = c; place = p; count = n }) t u w
+  told-refusal {c} {p} {n} e f =
+      subst (λ (x : Verdict). Examined x (record { number = c; place = p; count = n }) t u w) (sym e) (
+        record { number = refl; place = refl; count = refl },
+        record { starts = refl; parts = refl; owners = refl; eachPart = refl; eachOwner = refl; counted = f },
+      )
+
+  told-fault : {c p : ℕ} {a : Answer} → v ≡ refused c p 0 → a ≡ refusal c p → Examined v a t u w
+  told-fault e g = subst (λ (x : Answer). Examined v x t u w) (sym g) (told-refusal e (λ z. refl))
+
+  told-pass : {qs ps os : List ℕ} {n : ℕ} → v ≡ passed qs ps os → n ≡ length qs → Begins qs t → Begins ps u → Begins os w
+      → length ps ≡ length qs → length os ≡ length qs → Examined v (record { number = 0; place = 0; count = n }) t u w
+  told-pass {qs} {ps} {os} {n} e m a b c l k =
+      subst (λ (x : Verdict). Examined x (record { number = 0; place = 0; count = n }) t u w) (sym e) (
+        record { number = refl; place = refl; count = m },
+        record { starts = a; parts = b; owners = c; eachPart = l; eachOwner = k; counted = λ z. refl },
+      )
+
+pub header-refused : (s : List ℕ) (room : ℕ) {c : ℕ} {a : Answer} (t u w : List ℕ) → opened.Refused c ≡ openedAs s
+    → a ≡ refusal c 0 → Examined (verdict s room) a t u w
+header-refused s room t u w e g = told-fault t u w (verdict-header s room (sym e)) g
+
+pub chain-refused : (s : List ℕ) (room : ℕ) {h : FileHead} {c p : ℕ} {r : Outcome} {a : Answer} (t u v w : List ℕ)
+    → opened.Good h ≡ openedAs s → r ≡ outcome.Fault c p → Walked s t u r → a ≡ refusal c p → Examined (verdict s room) a u v w
+chain-refused s room t u v w o e k g =
+    let f = subst (Walked s t u) e k in
+    told-fault u v w (verdict-fault s room (sym o) (f .0) (f .1) (f .2) (f .3)) g
+
+-- the room, as it was computed once the starts were written
+room-is : (t u v w : List ℕ) {a b : ℕ} → length u ≡ length t → a ≡ lesser (length u) b → b ≡ lesser (length v) (length w)
+    → a ≡ roomOf t v w
+room-is t u v w {a} {b} l e f = e ∙ rw (l, f)
+
+lesser-or : (a b : ℕ) → (lesser a b ≤ a) × (lesser a b ≤ b)
+lesser-or a b =
+    ⊎-elim (λ (l : a ≤ b). rw (le-leb a b l) (omega arith)) (λ (l : b < a). rw (lt-leb a b l) (omega arith)) (le-or a b)
+  where
+    le-or : (a b : ℕ) → (a ≤ b) ⊎ (b < a)
+    le-or a b = ⊎-elim (λ (l : b < a). inr l) (λ (l : a ≤ b). inl l) (below-or b a)
+
+pub record Fits (n : ℕ) (t v w : List ℕ) : Type 0 where
+  pub room : n ≤ roomOf t v w
+  pub starts : n ≤ length t
+  pub parts : n ≤ length v
+  pub owners : n ≤ length w
+
+fits : (t v w : List ℕ) {n a : ℕ} → a ≡ roomOf t v w → n ≤ a → Fits n t v w
+fits t v w {n} {a} e l =
+    let f = lesser-or (length t) (lesser (length v) (length w)) in
+    let g = lesser-or (length v) (length w) in
+    record { room = omega (arith, e); starts = omega (arith, e, f); parts = omega (arith, e, f, g); owners = omega (arith, e, f, g) }
+
+-- a whole chain: its starts, and the table with them
+pub record Cut (s : List ℕ) (h : FileHead) (t u : List ℕ) (n : ℕ) : Type 0 where
+  pub starts : List ℕ
+  pub good : openedAs s ≡ opened.Good h
+  pub partition : Partition s 100 (length s) starts
+  pub count : n ≡ length starts
+  pub table : u ≡ over starts t
+
+pub cut : (s t u : List ℕ) {h : FileHead} {n : ℕ} {r : Outcome} → opened.Good h ≡ openedAs s → r ≡ outcome.Whole n → Walked s t u r
+    → Cut s h t u n
+cut s t u o e k =
+    let f = subst (Walked s t u) e k in
+    record { starts = f .0; good = sym o; partition = f .1; count = f .2; table = f .3 }
+
+module _ {s : List ℕ} {h : FileHead} {t u : List ℕ} {n : ℕ} (k : Cut s h t u n) where
+  pub cut-kept : length u ≡ length t
+  cut-kept = ap length (k .table) ∙ length-over (k .starts) t
+
+  -- the room, as it was computed
+  module _ (v w : List ℕ) {a b : ℕ} (e : a ≡ lesser (length u) b) (f : b ≡ lesser (length v) (length w)) where
+    pub cut-fits : n ≤ a → Fits n t v w
+    cut-fits l = fits t v w (room-is t u v w cut-kept e f) l
+
+    pub cut-seven : (x y : List ℕ) → a < n
+        → Examined (verdict s (roomOf t v w)) (record { number = 7; place = 0; count = n }) u x y
+    cut-seven x y l =
+        let m : roomOf t v w < length (k .starts) = rw (sym (room-is t u v w cut-kept e f), sym (k .count)) l in
+        told-refusal u x y (verdict-seven s (roomOf t v w) (k .good) (k .starts) (k .partition) m ∙ rw (k .count)) (λ z. absurd (omega arith))
+
+  module _ {v w : List ℕ} (fit : Fits n t v w) where
+    cut-starts : take n u ≡ k .starts
+    cut-starts = rw (k .table, roomy (k .starts) t (omega (arith, k .count, fit .starts))) (take-at (k .starts) _ n (sym (k .count)))
+
+    pub cut-tables : Tables (take n u) (take n v) (take n w)
+    cut-tables = record {
+      rising = rw cut-starts (rises s 100 (k .starts) (length s) (k .partition));
+      parts = rw (cut-starts, length-take-le n v (fit .parts)) (k .count);
+      owners = rw (cut-starts, length-take-le n w (fit .owners)) (k .count);
+    }
+
+    turned : {r : Turn} → ruled s h (take n u) ≡ r → verdict s (roomOf t v w) ≡ onTurn (k .starts) r
+    turned e = verdict-turn s (roomOf t v w) (k .good) (k .starts) (k .partition) (rw (sym (k .count)) (fit .room)) ((rw cut-starts at e))
+
+    pub cut-stops : {c q : ℕ} {r : Listed} {a : Answer} (ps os x y : List ℕ) → r ≡ Fault c q → Ran (ruled s h (take n u)) r ps os
+        → a ≡ refusal c q → Examined (verdict s (roomOf t v w)) a u x y
+    cut-stops ps os x y e r g = told-fault u x y (turned (ran-fault (ruled s h (take n u)) ps os e r)) g
+
+    pub cut-passes : {a b : ℕ} {r : Listed} (ps os x y : List ℕ) → length ps ≡ length (take n v) → length os ≡ length (take n w)
+        → r ≡ Next a b → Ran (ruled s h (take n u)) r ps os
+        → Examined (verdict s (roomOf t v w)) (record { number = 0; place = 0; count = n }) u (ps ++ x) (os ++ y)
+    cut-passes ps os x y a b e r =
+        told-pass u (ps ++ x) (os ++ y)
+        (turned (ran-next (ruled s h (take n u)) ps os e r))
+        (k .count)
+        (ap (λ (m : ℕ). take m u) (sym (k .count)) ∙ cut-starts)
+        (take-at ps x (length ps) refl)
+        (take-at os y (length os) refl)
+        (a ∙ length-take-le n v (fit .parts) ∙ k .count)
+        (b ∙ length-take-le n w (fit .owners) ∙ k .count)
+
+-- the rows that are kept when the rest is cleared
+pub record Rows (v : Verdict) (n : ℕ) (t u w : List ℕ) : Type 0 where
+  pub count : n ≡ length (startsOf v)
+  pub filled : Filled v t u w
+
+no-rows : (v : Verdict) → (numberOf v ≡ 0 → ⊥) → 0 ≡ length (startsOf v)
+no-rows (passed qs ps os) z = absurd (z refl)
+no-rows (refused c p n) z = refl
+
+module _ {v : Verdict} {a : Answer} {t u w : List ℕ} (x : Examined v a t u w) where
+  pub rows-some : {n : ℕ} → a .number ≡ 0 → n ≡ a .count → Rows v n t u w
+  rows-some z e = record {
+    count = e ∙ x .0 .count ∙ x .1 .counted (sym (x .0 .number) ∙ z);
+    filled = x .1;
+  }
+
+  pub rows-none : {n : ℕ} → (a .number ≡ 0 → ⊥) → n ≡ 0 → Rows v n t u w
+  rows-none z e = record { count = e ∙ no-rows v (λ i. z (x .0 .number ∙ i)); filled = x .1 }
+
+begins-within : (xs t : List ℕ) → Begins xs t → length xs ≤ length t
+begins-within xs t b =
+    let e : length (take (length xs) t) ≡ length xs = ap length b in
+    let f = rw length-take at e in
+    omega arith
+
+begins-table : (xs t r u : List ℕ) {n : ℕ} → Begins xs t → n ≡ length xs → length t ≡ length r
+    → u ≡ take n t ++ replicate (length t - n) 0 → u ≡ tableOf xs r
+begins-table xs t r u b e l f = f ∙ rw (e, b, l)
+
+-- what the tables hold afterwards: the rows, then zeros to the end of each
+pub record Told (v : Verdict) (start part owner start′ part′ owner′ : List ℕ) : Type 0 where
+  pub starts : start′ ≡ tableOf (startsOf v) start
+  pub parts : part′ ≡ tableOf (partsOf v) part
+  pub owners : owner′ ≡ tableOf (ownersOf v) owner
+
+pub audited : (s t u w t₁ u₁ w₁ : List ℕ) {a : Answer} → Answers (verdict s (roomOf t u w)) a
+    → Told (verdict s (roomOf t u w)) t u w t₁ u₁ w₁ → Audited s t u w t₁ u₁ w₁ (a .number) (a .place) (a .count)
+audited s t u w t₁ u₁ w₁ x y = record {
+  theNumber = x .number;
+  thePlace = x .place;
+  theCount = x .count;
+  starts = y .starts;
+  parts = y .parts;
+  owners = y .owners;
+  demand = demand s (roomOf t u w);
+}
+
+module _ {v : Verdict} {n : ℕ} {t u w : List ℕ} (x : Rows v n t u w) where
+  parts-count : n ≡ length (partsOf v)
+  parts-count = x .count ∙ sym (x .filled .eachPart)
+
+  owners-count : n ≡ length (ownersOf v)
+  owners-count = x .count ∙ sym (x .filled .eachOwner)
+
+  pub rows-starts : n ≤ length t
+  rows-starts = omega (arith, x .count, begins-within (startsOf v) t (x .filled .starts))
+
+  pub rows-parts : n ≤ length u
+  rows-parts = omega (arith, parts-count, begins-within (partsOf v) u (x .filled .parts))
+
+  pub rows-owners : n ≤ length w
+  rows-owners = omega (arith, owners-count, begins-within (ownersOf v) w (x .filled .owners))
+
+  pub rows-told : (t₀ u₀ w₀ : List ℕ) {t₁ u₁ w₁ : List ℕ} → length t ≡ length t₀ → length u ≡ length u₀ → length w ≡ length w₀
+      → t₁ ≡ take n t ++ replicate (length t - n) 0 → u₁ ≡ take n u ++ replicate (length u - n) 0
+      → w₁ ≡ take n w ++ replicate (length w - n) 0 → Told v t₀ u₀ w₀ t₁ u₁ w₁
+  rows-told t₀ u₀ w₀ {t₁} {u₁} {w₁} a b c d e f = record {
+    starts = begins-table (startsOf v) t t₀ t₁ (x .filled .starts) (x .count) a d;
+    parts = begins-table (partsOf v) u u₀ u₁ (x .filled .parts) parts-count b e;
+    owners = begins-table (ownersOf v) w w₀ w₁ (x .filled .owners) owners-count c f;
+  }

@@ -1,0 +1,67 @@
+use mathlib.Core.Path.{sym, _∙_}
+use denote.Ref.{now}
+use Rattle.audit.proofs.Listings.{faulted}
+use Rattle.audit.proofs.Turns.{dir-bad, dir-held}
+use borrow.Author.Needs.{needs}
+use Rattle.audit.proofs.rounds.list_dir.Statement.{statement}
+use Rattle.audit.proofs.rounds.list_dir.Tie as tie
+use Rattle.audit.proofs.keys.list_keys.Reads as list-keys-reads
+use Rattle.audit.proofs.rounds.read_dir.Reads as read-dir-reads
+use Rattle.audit.proofs.rows.long.Reads as long-reads
+
+mul-dir : tie.Need-mul-dir
+mul-dir c = search needs
+
+shared-slice-read-dir : tie.Need-shared-slice-read-dir
+shared-slice-read-dir c = search needs
+
+mul-read-dir : tie.Need-mul-read-dir
+mul-read-dir c = search needs
+
+slice-read-read-dir : tie.Need-slice-read-read-dir
+slice-read-read-dir c = search needs
+
+read-dir-requires : tie.Need-read-dir-requires
+read-dir-requires c κs = search needs
+
+enum-known-d : tie.Need-enum-known-d
+enum-known-d c = search needs
+
+enum-told : tie.Need-enum-told
+enum-told c = search needs
+
+long-requires : tie.Need-long-requires
+long-requires c κs = search needs
+
+returns : tie.Need-returns
+returns c = let a = c .before .before .before .before .before .before .before .before .before .before .args in faulted _ _ _ _ _ (dir-bad (now (a .file)) (a .head) (now (a .start)) (a .row) (now (a .part)) (now (a .owner)) (c .long .ensures .0) (sym (c .before .enum-told .given .1) ∙ c .before .before .before .read-dir .ensures))
+
+list-keys-requires : tie.Need-list-keys-requires
+list-keys-requires c κs = search needs
+
+same-length : tie.Need-same-length
+same-length c = search needs
+
+same-length-2 : tie.Need-same-length-2
+same-length-2 c = search needs
+
+returns-2 : tie.Need-returns-2
+returns-2 c = let a = c .before .before .before .before .before .before .before .before .before .before .before .before .before .before .before .before .before .args in dir-held (now (a .file)) (a .head) (now (a .start)) (a .row) (now (a .part)) (now (a .owner)) _ _ _ (sym (c .before .before .before .before .before .before .before .before .d .given .1) ∙ c .before .before .before .before .before .before .before .before .before .before .read-dir .ensures) (c .before .before .before .before .list-keys .ensures)
+
+pub list-dir-spec : {M : Type 1} → statement M
+list-dir-spec =
+    tie.close
+    (tie.spec
+    mul-dir
+    shared-slice-read-dir
+    mul-read-dir
+    slice-read-read-dir
+    read-dir-requires
+    enum-known-d
+    enum-told
+    long-requires
+    returns
+    list-keys-requires
+    same-length
+    same-length-2
+    returns-2)

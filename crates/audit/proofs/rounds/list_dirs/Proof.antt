@@ -1,0 +1,89 @@
+use lib.ListN.{length}
+use Rattle.audit.proofs.Turns.{Rounding, rounds-began, rounds-ended, rounds-rest, ready, rounds-fault, rounds-again}
+use native.Mathlib.Omega.{arith}
+use borrow.Author.Needs.{needs}
+use Rattle.audit.proofs.rounds.list_dirs.Statement.{statement}
+use Rattle.audit.proofs.rounds.list_dirs.Tie as tie
+use Rattle.audit.proofs.rounds.next_row.Reads as next-row-reads
+use Rattle.audit.proofs.rounds.take_dir.Reads as take-dir-reads
+
+abbrev Inv-loop : tie.InvT-loop
+Inv-loop file start part₀ owner₀ head at₀ low₀ left₀ part owner at low left = Rounding file head start (length start) part₀ owner₀ left part owner at low
+
+abbrev μ-loop : tie.MeasureT-loop
+μ-loop file start part₀ owner₀ head at₀ low₀ left₀ part owner at low left = left
+
+loop-holds : tie.Need-loop-holds Inv-loop μ-loop
+loop-holds c = rounds-began _ _ _ _ _ _
+
+next-row-requires : tie.Need-next-row-requires Inv-loop μ-loop
+next-row-requires c κs = c .before .before .loop .inv .done
+
+same-length : tie.Need-same-length Inv-loop μ-loop
+same-length c = search needs
+
+same-length-2 : tie.Need-same-length-2 Inv-loop μ-loop
+same-length-2 c = search needs
+
+returns : tie.Need-returns Inv-loop μ-loop
+returns c = rounds-rest (c .before .before .before .before .loop .inv) (omega (arith, c .before .before .before)) (c .before .next-row .ensures) (c .if1 .taken)
+
+take-dir-requires : tie.Need-take-dir-requires Inv-loop μ-loop
+take-dir-requires c κs = ready (c .before .before .before .before .before .before .loop .inv) (omega (arith, c .before .before .before .before .before)) (c .before .before .before .next-row .ensures) (c .before .before .if1 .left) (c .before .before .before .before .before .before .before .before .before .before .before .pre)
+
+enum-known-r : tie.Need-enum-known-r Inv-loop μ-loop
+enum-known-r c = search needs
+
+enum-told : tie.Need-enum-told Inv-loop μ-loop
+enum-told c = search needs
+
+same-length-3 : tie.Need-same-length-3 Inv-loop μ-loop
+same-length-3 c = search needs
+
+same-length-4 : tie.Need-same-length-4 Inv-loop μ-loop
+same-length-4 c = search needs
+
+returns-2 : tie.Need-returns-2 Inv-loop μ-loop
+returns-2 c = rounds-fault (c .before .before .before .before .before .before .before .before .before .before .before .before .before .loop .inv) (omega (arith, c .before .before .before .before .before .before .before .before .before .before .before .before)) (c .before .before .before .before .before .before .before .before .before .before .next-row .ensures) (c .before .before .before .before .before .before .before .before .before .if1 .left) _ _ _ (c .before .before .before .before .before .before .take-dir .ensures) (c .enum-told .given .1)
+
+sub-left : tie.Need-sub-left Inv-loop μ-loop
+sub-left c = search needs
+
+loop-less : tie.Need-loop-less Inv-loop μ-loop
+loop-less c = search needs
+
+loop-again : tie.Need-loop-again Inv-loop μ-loop
+loop-again c = let k = c .before .before .before .before .before .before .before .take-dir .kept in rounds-again (c .before .before .before .before .before .before .before .before .before .before .before .before .before .before .loop .inv) (omega (arith, c .before .before .before .before .before .before .before .before .before .before .before .before .before)) (c .before .before .before .before .before .before .before .before .before .before .before .next-row .ensures) (c .before .before .before .before .before .before .before .before .before .before .if1 .left) _ _ _ (c .before .before .before .before .before .before .before .take-dir .ensures) (c .before .r .given .1) (k .1 .1 .0) (k .1 .1 .1 .0)
+
+same-length-5 : tie.Need-same-length-5 Inv-loop μ-loop
+same-length-5 c = search needs
+
+same-length-6 : tie.Need-same-length-6 Inv-loop μ-loop
+same-length-6 c = search needs
+
+returns-3 : tie.Need-returns-3 Inv-loop μ-loop
+returns-3 c = rounds-ended (c .before .loop .inv) (omega arith)
+
+pub list-dirs-spec : {M : Type 1} → statement M
+list-dirs-spec =
+    tie.close
+    (tie.spec
+    Inv-loop
+    μ-loop
+    loop-holds
+    next-row-requires
+    same-length
+    same-length-2
+    returns
+    take-dir-requires
+    enum-known-r
+    enum-told
+    same-length-3
+    same-length-4
+    returns-2
+    sub-left
+    loop-less
+    loop-again
+    same-length-5
+    same-length-6
+    returns-3)

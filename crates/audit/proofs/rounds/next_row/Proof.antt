@@ -1,0 +1,54 @@
+use Prim.Native.Nat.{_-_}
+use denote.Ref.{now}
+use lib.ListN.{length}
+use Rattle.audit.specs.Listing.{Done}
+use Rattle.audit.proofs.Turns.{done-more, first-left, none-left}
+use native.Mathlib.Omega.{arith}
+use borrow.Author.Needs.{needs}
+use Rattle.audit.proofs.rounds.next_row.Statement.{statement}
+use Rattle.audit.proofs.rounds.next_row.Tie as tie
+
+abbrev Inv-loop : tie.InvT-loop
+Inv-loop part from i₀ i = Done part i
+
+abbrev μ-loop : tie.MeasureT-loop
+μ-loop part from i₀ i = length part - i
+
+loop-holds : tie.Need-loop-holds Inv-loop μ-loop
+loop-holds c = c .pre
+
+mul-if1 : tie.Need-mul-if1 Inv-loop μ-loop
+mul-if1 c = search needs
+
+shared-slice-read-if1 : tie.Need-shared-slice-read-if1 Inv-loop μ-loop
+shared-slice-read-if1 c = search needs
+
+returns : tie.Need-returns Inv-loop μ-loop
+returns c = first-left (now (c .before .before .before .before .args .part)) _ (c .before .before .before .loop .inv) (omega arith) (omega arith)
+
+add-i : tie.Need-add-i Inv-loop μ-loop
+add-i c = search needs
+
+loop-less : tie.Need-loop-less Inv-loop μ-loop
+loop-less c = search needs
+
+loop-again : tie.Need-loop-again Inv-loop μ-loop
+loop-again c = done-more (now (c .before .before .before .before .args .part)) _ (c .before .before .before .loop .inv) (omega arith) (omega arith)
+
+returns-2 : tie.Need-returns-2 Inv-loop μ-loop
+returns-2 c = none-left (now (c .before .before .args .part)) _ (c .before .loop .inv) (omega arith)
+
+pub next-row-spec : {M : Type 1} → statement M
+next-row-spec =
+    tie.close
+    (tie.spec
+    Inv-loop
+    μ-loop
+    loop-holds
+    mul-if1
+    shared-slice-read-if1
+    returns
+    add-i
+    loop-less
+    loop-again
+    returns-2)

@@ -1,0 +1,81 @@
+use native.Mathlib.Omega.{arith}
+use mathlib.Core.Path.{refl}
+use denote.Ref.{now}
+use Rattle.audit.proofs.Turns.{round-fault, round-done}
+use borrow.Author.Needs.{needs}
+use Rattle.audit.proofs.rounds.take_dir.Statement.{statement}
+use Rattle.audit.proofs.rounds.take_dir.Tie as tie
+use Rattle.audit.proofs.rounds.list_dir.Reads as list-dir-reads
+
+mul-mark : tie.Need-mul-mark
+mul-mark c = search needs
+
+slice-read-mark : tie.Need-slice-read-mark
+slice-read-mark c = search needs
+
+list-dir-requires : tie.Need-list-dir-requires
+list-dir-requires c κs = search needs
+
+enum-known-r : tie.Need-enum-known-r
+enum-known-r c = search needs
+
+enum-told : tie.Need-enum-told
+enum-told c = search needs
+
+same-length : tie.Need-same-length
+same-length c = search needs
+
+same-length-2 : tie.Need-same-length-2
+same-length-2 c = search needs
+
+returns : tie.Need-returns
+returns c = let a = c .before .before .before .before .before .before .before .before .before .before .before .before .before .before .args in round-fault (now (a .file)) (a .head) (now (a .start)) (a .row) (now (a .part)) (now (a .owner)) _ _ _ (c .before .before .before .before .before .before .list-dir .ensures) (c .enum-told .given .1)
+
+sub-part : tie.Need-sub-part
+sub-part c = search needs
+
+mul-part : tie.Need-mul-part
+mul-part c = search needs
+
+slice-write-part : tie.Need-slice-write-part
+slice-write-part c = search needs
+
+same-length-3 : tie.Need-same-length-3
+same-length-3 c = search needs
+
+same-length-4 : tie.Need-same-length-4
+same-length-4 c = search needs
+
+returns-2 : tie.Need-returns-2
+returns-2 c = let a = c .before .before .before .before .before .before .before .before .before .before .before .before .before .before .before .before .args in let k = c .before .before .before .before .before .before .before .before .list-dir .kept in round-done (now (a .file)) (a .head) (now (a .start)) (a .row) (now (a .part)) (now (a .owner)) _ _ _ (c .before .before .before .before .before .before .before .before .list-dir .ensures) (c .before .before .r .given .1) _ _ refl (c .before .before .before .before .before .before .before .before .before .before .before .before .before .before .before .before .pre .2) (omega (arith, c .before .before .before .before .before .before .before .before .before .before .before .before .before .before .before .before .pre .1, c .before .before .before .before .before .before .before .before .before .before .before .before .before .before .before .before .pre .0 .parts)) (k .1 .1 .0) (omega (arith, c .if1)) (omega arith)
+
+same-length-5 : tie.Need-same-length-5
+same-length-5 c = search needs
+
+same-length-6 : tie.Need-same-length-6
+same-length-6 c = search needs
+
+returns-3 : tie.Need-returns-3
+returns-3 c = let a = c .before .before .before .before .before .before .before .before .before .before .before .before .before .before .before .before .args in let k = c .before .before .before .before .before .before .before .before .list-dir .kept in round-done (now (a .file)) (a .head) (now (a .start)) (a .row) (now (a .part)) (now (a .owner)) _ _ _ (c .before .before .before .before .before .before .before .before .list-dir .ensures) (c .before .before .r .given .1) _ _ refl (c .before .before .before .before .before .before .before .before .before .before .before .before .before .before .before .before .pre .2) (omega (arith, c .before .before .before .before .before .before .before .before .before .before .before .before .before .before .before .before .pre .1, c .before .before .before .before .before .before .before .before .before .before .before .before .before .before .before .before .pre .0 .parts)) (k .1 .1 .0) (omega arith) (omega (arith, c .if1))
+
+pub take-dir-spec : {M : Type 1} → statement M
+take-dir-spec =
+    tie.close
+    (tie.spec
+    mul-mark
+    slice-read-mark
+    list-dir-requires
+    enum-known-r
+    enum-told
+    same-length
+    same-length-2
+    returns
+    sub-part
+    mul-part
+    slice-write-part
+    same-length-3
+    same-length-4
+    returns-2
+    same-length-5
+    same-length-6
+    returns-3)

@@ -1,0 +1,112 @@
+// The directories, lowest place first among those found and not done.
+ghost use mathlib.Core.Path.{_≡_};
+ghost use Prim.Native.Nat.{_≤_, _<_};
+ghost use lib.ListN.{length, getD};
+ghost use Rattle.rules.specs.Rules.{dirOf};
+ghost use Rattle.rules.specs.Turn.{dirTurn, roundTurn, nextRow, rounds};
+ghost use Rattle.audit.specs.Listing.{Ran, Quiet, Done, DoneTo, Tables};
+use crate::keys::Listed;
+use crate::keys::list_keys;
+use crate::rows::long;
+use layout::dirs::Dir;
+use layout::dirs::read_head;
+use layout::dirs::read_sub;
+use layout::file::FileHead;
+
+// The header of the directory at a place.
+fn read_dir(file: &[u8], head: FileHead, place: u32, parent: u32) -> Dir
+    ensures { λ r. ⌜ r ≡ dirOf (now (file .entry)) head place parent ⌝ }
+{
+    if place == 100 {
+        return read_head(file, head.nbytesname);
+    }
+    read_sub(file, long(place), long(parent))
+}
+
+// The directory in a row.
+fn list_dir(
+    file: &[u8],
+    start: &[u32],
+    part: &mut [u32],
+    owner: &mut [u32],
+    head: FileHead,
+    row: usize,
+) -> Listed
+    requires { ⌜ Tables (now start) (now part) (now owner) × (row < length (now start)) ⌝ }
+    ensures { λ r. ⌜ Ran (dirTurn (now (file .entry)) head (now (start .entry)) row (now (part .entry)) (now (owner .entry))) r (now (part .exit)) (now (owner .exit)) × Quiet (now (part .entry)) (now (part .exit)) r ⌝ }
+{
+    let dir = start[row];
+    let Dir::Held(d) = read_dir(file, head, dir, owner[row]) else {
+        return Listed::Fault(11, long(dir));
+    };
+    list_keys(file, start, part, owner, dir, d)
+}
+
+// The same, and it is done.
+fn take_dir(
+    file: &[u8],
+    start: &[u32],
+    part: &mut [u32],
+    owner: &mut [u32],
+    head: FileHead,
+    row: usize,
+) -> Listed
+    requires { ⌜ Tables (now start) (now part) (now owner) × (row < length (now start)) × Done (now part) row × (8 ≤ getD (now part) row 0) ⌝ }
+    ensures { λ r. ⌜ Ran (roundTurn (now (file .entry)) head (now (start .entry)) row (now (part .entry)) (now (owner .entry))) r (now (part .exit)) (now (owner .exit)) × DoneTo (now (part .exit)) r ⌝ }
+{
+    let mark = part[row];
+    let r = list_dir(file, start, part, owner, head, row);
+    let Listed::Next(at, low) = r else {
+        return r;
+    };
+    part[row] = mark - 8;
+    if row < low {
+        return Listed::Next(at, row);
+    }
+    Listed::Next(at, low)
+}
+
+// The lowest row, from a row on, of a directory that was found and is not done.
+fn next_row(part: &[u32], from: usize) -> usize
+    requires { ⌜ Done (now part) from ⌝ }
+    ensures { λ r. ⌜ r ≡ nextRow (now (part .entry)) ⌝ }
+{
+    let mut i = from;
+    while i < part.len() {
+        if 8 <= part[i] {
+            return i;
+        }
+        i += 1;
+    }
+    i
+}
+
+// All directories.
+pub(crate) fn list_dirs(
+    file: &[u8],
+    start: &[u32],
+    part: &mut [u32],
+    owner: &mut [u32],
+    head: FileHead,
+) -> Listed
+    requires { ⌜ Tables (now start) (now part) (now owner) ⌝ }
+    ensures { λ r. ⌜ Ran (rounds (now (file .entry)) head (now (start .entry)) (length (now (start .entry))) (now (part .entry)) (now (owner .entry)) 0) r (now (part .exit)) (now (owner .exit)) ⌝ }
+{
+    let mut at: usize = 0;
+    let mut low: usize = 0;
+    let mut left = start.len();
+    while 0 < left {
+        let row = next_row(part, low);
+        if row == part.len() {
+            return Listed::Next(at, low);
+        }
+        let r = take_dir(file, start, part, owner, head, row);
+        let Listed::Next(next, found) = r else {
+            return r;
+        };
+        at = next;
+        low = found;
+        left -= 1;
+    }
+    Listed::Next(at, low)
+}

@@ -1,0 +1,60 @@
+-- Partitions: one at most, none after a refusal, starts that rise, a piece at each.
+use Prim.Native.Nat.{ℕ, zero, suc, _+_, _≤_, _<_}
+use mathlib.Core.List.{List, [], _∷_, _++_}
+use mathlib.Core.Path.{_≡_, refl, sym}
+use native.Mathlib.Omega.{arith}
+use lib.ListN.{length, getD}
+use Rattle.key.specs.Piece.{pieceAt, sizeOf}
+use Rattle.key.proofs.Pieces.{size-fits}
+use Rattle.rules.specs.Partition.{Partition}
+use Rattle.rules.specs.Row.{Rising}
+
+-- one piece more
+pub snoc : (s : List ℕ) (p : ℕ) (qs : List ℕ) (e : ℕ) → Partition s p e qs → 0 < sizeOf (pieceAt s e)
+    → Partition s p (e + sizeOf (pieceAt s e)) (qs ++ e ∷ [])
+snoc s p [] e h l = (sym h, (rw h l, rw h refl))
+snoc s p (q ∷ qs) e h l = (h .0, (h .1 .0, snoc s (p + sizeOf (pieceAt s p)) qs e (h .1 .1) l))
+
+-- at most one partition from a place to the end
+pub one-partition : (s : List ℕ) (p : ℕ) (qs rs : List ℕ) → Partition s p (length s) qs → Partition s p (length s) rs → qs ≡ rs
+one-partition s p [] [] h k = refl
+one-partition s p [] (r ∷ rs) h k = let f = size-fits s p (k .1 .0) in absurd (omega arith)
+one-partition s p (q ∷ qs) [] h k = let f = size-fits s p (h .1 .0) in absurd (omega arith)
+one-partition s p (q ∷ qs) (r ∷ rs) h k =
+    let e = one-partition s (p + sizeOf (pieceAt s p)) qs rs (h .1 .1) (k .1 .1) in
+    let f = h .0 in
+    let g = k .0 in
+    cc
+
+-- a chain that stops at a refusal: there is no partition
+pub no-partition : (s : List ℕ) (p : ℕ) (qs rs : List ℕ) (e : ℕ) → Partition s p e qs → sizeOf (pieceAt s e) ≡ 0 → e < length s
+    → Partition s p (length s) rs → ⊥
+no-partition s p [] [] e h z l k = omega arith
+no-partition s p [] (r ∷ rs) e h z l k = let y = rw h at (k .1 .0) in omega arith
+no-partition s p (q ∷ qs) [] e h z l k = let f = size-fits s p (h .1 .0) in omega arith
+no-partition s p (q ∷ qs) (r ∷ rs) e h z l k = no-partition s (p + sizeOf (pieceAt s p)) qs rs e (h .1 .1) z l (k .1 .1)
+
+-- the starts of a partition rise
+pub above : (s : List ℕ) (p : ℕ) (qs : List ℕ) (e : ℕ) → Partition s p e qs → (i : ℕ) → i < length qs → p ≤ getD qs i 0
+above s p [] e h i l = absurd (omega arith)
+above s p (q ∷ qs) e h zero l = omega (arith, h .0)
+above s p (q ∷ qs) e h (suc i) l = omega (arith, above s (p + sizeOf (pieceAt s p)) qs e (h .1 .1) i (omega arith))
+
+pub rises : (s : List ℕ) (p : ℕ) (qs : List ℕ) (e : ℕ) → Partition s p e qs → Rising qs (length qs)
+rises s p [] e h i j l m = absurd (omega arith)
+rises s p (q ∷ qs) e h zero zero l m = absurd (omega arith)
+rises s p (q ∷ qs) e h zero (suc j) l m = omega (arith, h .0, h .1 .0, above s (p + sizeOf (pieceAt s p)) qs e (h .1 .1) j (omega arith))
+rises s p (q ∷ qs) e h (suc i) zero l m = absurd (omega arith)
+rises s p (q ∷ qs) e h (suc i) (suc j) l m = rises s (p + sizeOf (pieceAt s p)) qs e (h .1 .1) i j (omega arith) (omega arith)
+
+-- a piece stands at each of them, before the end
+pub sized-at : (s : List ℕ) (p : ℕ) (qs : List ℕ) (e : ℕ) → Partition s p e qs → (i : ℕ) → i < length qs
+    → 0 < sizeOf (pieceAt s (getD qs i 0))
+sized-at s p [] e h i l = absurd (omega arith)
+sized-at s p (q ∷ qs) e h zero l = rw (h .0) (h .1 .0)
+sized-at s p (q ∷ qs) e h (suc i) l = sized-at s (p + sizeOf (pieceAt s p)) qs e (h .1 .1) i (omega arith)
+
+-- a partition goes forward
+pub forward : (s : List ℕ) (p : ℕ) (qs : List ℕ) (e : ℕ) → Partition s p e qs → p ≤ e
+forward s p [] e h = omega (arith, h)
+forward s p (q ∷ qs) e h = omega (arith, forward s (p + sizeOf (pieceAt s p)) qs e (h .1 .1))
