@@ -2,12 +2,13 @@
 use Prim.Native.Nat.{ℕ, suc, _+_, _-_, _<_, _≤_}
 use mathlib.Core.Bool.{Bool, true, false, not}
 use mathlib.Core.List.{List}
+use mathlib.Core.Logic.{⊎-elim}
 use mathlib.Core.Path.{_≡_, refl, sym, ap, _∙_, subst}
 use native.Mathlib.Omega.{arith}
-use borrow.Author.Tests.{eq-eqb, ne-eqb}
-use lib.Dec.{T}
+use borrow.Author.Tests.{eq-eqb, ne-eqb, le-leb, lt-leb, leb-false}
+use lib.Dec.{T, leb}
 use lib.ListN.{length, getD, set, length-set}
-use lib.Seq.{getD-set-other}
+use lib.Seq.{getD-set-same, getD-set-other}
 use Rattle.wire.specs.Check.{All, pick}
 use Rattle.wire.proofs.Checks.{yes-all, not-all}
 use Rattle.key.specs.Piece.{pieceAt}
@@ -20,6 +21,7 @@ use Rattle.layout.proofs.Records.{passed}
 use Rattle.rules.specs.Entry.{isRecord, entryFits}
 use Rattle.rules.specs.Row.{starts, rowOf}
 use Rattle.rules.specs.Turn.{Turn, going, stop, andThen, give, listedMark, onCopy, copyTurn, copies}
+use Rattle.rules.proofs.Items.{same?}
 use Rattle.rules.proofs.Rows.{start-there, no-start, row-of}
 use Rattle.audit.specs.Listing.{Ran, Quiet, Tables}
 use Rattle.audit.specs.Row.{RowOf}
@@ -141,11 +143,30 @@ module _ (s qs : List ℕ) (d seek end : ℕ) (ps os : List ℕ) (c : ℕ) where
           → copyTurn s qs d seek end ps os c ≡ going (set ps i m) (set os i d) (c + k .keylen)
       copy-given z f = by-row ∙ rw (eq-eqb (getD ps i 0) 7 z, f)
 
--- a row that is set: below it nothing changes
-pub given : (ps os : List ℕ) (i m d c : ℕ) {x : Turn} → x ≡ going (set ps i m) (set os i d) c
-    → Ran x (Next c i) (set ps i m) (set os i d) × Quiet ps (set ps i m) (Next c i)
-given ps os i m d c e =
-    (ran-next (set ps i m) (set os i d) c i e, quiet-next ps (set ps i m) c i (λ j l h. rw (getD-set-other ps i j m 0 (λ f. omega arith)) at h))
+-- the row that is told where a directory was found, and where none was
+pub found-here : (m i n : ℕ) → 8 ≤ m → _≡_ {A = ℕ} i (pick (leb 8 m) i n)
+found-here m i n l = rw (le-leb 8 m l)
+
+pub found-none : (m i n : ℕ) → m < 8 → _≡_ {A = ℕ} n (pick (leb 8 m) i n)
+found-none m i n l = rw (lt-leb 8 m l)
+
+-- a row that is set: below the row that is told no directory is found
+set-quiet : (ps : List ℕ) (i m n : ℕ) (b : Bool) → i < length ps → leb 8 m ≡ b → (j : ℕ) → j < pick b i n → 8 ≤ getD (set ps i m) j 0
+    → 8 ≤ getD ps j 0
+set-quiet ps i m n true k e j l h = rw (getD-set-other ps i j m 0 (λ f. omega arith)) at h
+set-quiet ps i m n false k e j l h =
+    ⊎-elim
+    (λ (f : j ≡ i). let x = leb-false 8 m e in let y = getD-set-same ps i m 0 k in let z = ap (λ (r : ℕ). getD (set ps i m) r 0) f in absurd (omega arith))
+    (λ (f : j ≡ i → ⊥). rw (getD-set-other ps i j m 0 f) at h)
+    (same? j i)
+
+pub given : (ps os : List ℕ) (i m d c n : ℕ) {x : Turn} {low : ℕ} → i < length ps → low ≡ pick (leb 8 m) i n
+    → x ≡ going (set ps i m) (set os i d) c
+    → Ran x (Next c low) (set ps i m) (set os i d) × Quiet ps (set ps i m) (Next c low)
+given ps os i m d c n {x} {low} k o e = (
+  ran-next (set ps i m) (set os i d) c low e,
+  quiet-next ps (set ps i m) c low (λ j l h. set-quiet ps i m n (leb 8 m) k refl j (subst (λ (r : ℕ). j < r) o l) h),
+)
 
 -- while copies are listed: what is left decides
 pub record Copying (s qs : List ℕ) (d seek end count : ℕ) (ps os : List ℕ) (from left : ℕ) (us vs : List ℕ) (at low : ℕ) : Type 0 where

@@ -1,6 +1,7 @@
 // A directory's keys list: the list and the record of each copy are given their part and owner.
 ghost use mathlib.Core.Path.{_≡_};
 ghost use Prim.Native.Nat.{_≤_, _+_};
+ghost use lib.Dec.{leb};
 ghost use lib.ListN.{length};
 ghost use Rattle.wire.specs.Check.{pick};
 ghost use Rattle.layout.specs.Name.{named, tDirectory};
@@ -21,7 +22,7 @@ use layout::names::is_directory;
 use layout::names::same_at;
 use wire::number::be32;
 
-// The next place of a list and the lowest row that was given a part, or the first refusal.
+// The next place of a list and the lowest row of a directory that was found, or the first refusal.
 pub enum Listed {
     Next(usize, usize),
     Fault(u32, usize),
@@ -35,6 +36,16 @@ fn mark_of(file: &[u8], k: Key) -> u32
         return 14;
     }
     5
+}
+
+// The row, if a directory was found in it; else the number of rows.
+fn found_row(mark: u32, row: usize, rows: usize) -> usize
+    ensures { λ r. ⌜ r ≡ pick (leb 8 mark) row rows ⌝ }
+{
+    if 8 <= mark {
+        return row;
+    }
+    rows
 }
 
 // One copy of a keys list.
@@ -70,9 +81,11 @@ fn one_copy(
     if part[row] != 7 {
         return Listed::Fault(14, at);
     }
-    part[row] = mark_of(file, l);
+    let mark = mark_of(file, l);
+    part[row] = mark;
     owner[row] = dir;
-    Listed::Next(at + k.keylen as usize, row)
+    let next = at + k.keylen as usize;
+    Listed::Next(next, found_row(mark, row, start.len()))
 }
 
 // Some copies of a keys list, one after the other.

@@ -1,5 +1,6 @@
 -- Big-endian numbers, over their width in bytes.
-use Prim.Native.Nat.{ℕ, zero, suc, _+_, _-_, _*_, _/_, _%_, _^_}
+use Prim.Native.Nat.{ℕ, zero, suc, _+_, _-_, _*_, _/_, _%_, _^_, _≤_}
+use mathlib.Core.Path.{_≡_}
 use mathlib.Core.List.{List, [], _∷_, _++_}
 use lib.ListN.{length, getD}
 use lib.IntN.{ℤ, pos, negsuc}
@@ -17,6 +18,14 @@ beValue (suc w) s p = beValue w s p * 256 + getD s (p + w) 0
 -- the number of w bytes at p; 0 unless all of them are there
 unfoldable pub numAt : ℕ → List ℕ → ℕ → ℕ
 numAt w s p = pick (leb (p + w) (length s)) (beValue w s p) 0
+
+-- r is the number of the four bytes at p, and each of them is one byte
+pub record Word (s : List ℕ) (p r : ℕ) : Type 0 where
+  pub value : r ≡ getD s p 0 * 16777216 + getD s (p + 1) 0 * 65536 + getD s (p + 2) 0 * 256 + getD s (p + 3) 0
+  pub first : getD s p 0 ≤ 255
+  pub second : getD s (p + 1) 0 ≤ 255
+  pub third : getD s (p + 2) 0 ≤ 255
+  pub fourth : getD s (p + 3) 0 ≤ 255
 
 -- the w bytes of a number
 unfoldable pub beBytes : ℕ → ℕ → List ℕ

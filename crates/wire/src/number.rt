@@ -1,7 +1,8 @@
 // Big-endian numbers, read at any place, and signed numbers of 16 bits.
 ghost use mathlib.Core.Path.{_≡_};
-ghost use Prim.Native.Nat.{_<_, _≤_};
-ghost use Rattle.wire.specs.Number.{numAt, signedOf, bits16};
+ghost use Prim.Native.Nat.{_<_, _≤_, _+_};
+ghost use lib.ListN.{length};
+ghost use Rattle.wire.specs.Number.{numAt, Word, signedOf, bits16};
 
 fn wide(b: u8) -> u32
     ensures { λ r. ⌜ (r ≡ b) × (r ≤ 255) ⌝ }
@@ -22,6 +23,14 @@ pub fn be16(s: &[u8], at: usize) -> u32
     wide(s[at]) * 256 + wide(s[at + 1])
 }
 
+// The number of 4 bytes that are there.
+pub(crate) fn word(s: &[u8], at: usize) -> u32
+    requires { ⌜ at + 4 ≤ length (now s) ⌝ }
+    ensures { λ r. ⌜ Word (now (s .entry)) at r ⌝ }
+{
+    wide(s[at]) * 16777216 + wide(s[at + 1]) * 65536 + wide(s[at + 2]) * 256 + wide(s[at + 3])
+}
+
 // The number of 4 bytes at a place; 0 unless all are there.
 pub fn be32(s: &[u8], at: usize) -> u32
     ensures { λ r. ⌜ r ≡ numAt 4 (now (s .entry)) at ⌝ }
@@ -32,7 +41,7 @@ pub fn be32(s: &[u8], at: usize) -> u32
     if s.len() - 4 < at {
         return 0;
     }
-    wide(s[at]) * 16777216 + wide(s[at + 1]) * 65536 + wide(s[at + 2]) * 256 + wide(s[at + 3])
+    word(s, at)
 }
 
 // The signed value of 16 bits.

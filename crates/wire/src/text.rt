@@ -2,6 +2,7 @@
 ghost use mathlib.Core.Path.{_≡_};
 ghost use Rattle.wire.specs.Equal.{eqBytes};
 ghost use Rattle.wire.specs.Text.{textIn};
+use crate::number::word;
 
 // Where a string stands: its first byte, its length, and the place after it.
 pub struct Text {
@@ -48,10 +49,17 @@ pub fn same(a: &[u8], b: &[u8]) -> bool
     }
     let mut i: usize = 0;
     while i < a.len() {
-        if a[i] != b[i] {
-            return false;
+        if a.len() - i < 4 {
+            if a[i] != b[i] {
+                return false;
+            }
+            i += 1;
+        } else {
+            if word(a, i) != word(b, i) {
+                return false;
+            }
+            i += 4;
         }
-        i += 1;
     }
     true
 }

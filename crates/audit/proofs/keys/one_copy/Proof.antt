@@ -84,11 +84,14 @@ mul-owner c = let a = c .before .before .before .before .before .before .before 
 slice-write-owner : tie.Need-slice-write-owner
 slice-write-owner c = let a = c .before .before .before .before .before .before .before .before .before .before .before .before .before .before .before .before .before .before .before .before .before .before .before .before .args in let o = sought (now (a .start)) (now (a .part)) (now (a .owner)) ((c .before .before .before .before .before .before .before .before .before .before .before .before .before .before .before .before .before .k .given .0 .0) .seekkey) _ (c .before .before .before .before .before .before .before .before .before .before .before .before .before .before .before .before .before .before .before .before .before .before .before .before .pre) (c .before .before .before .before .before .before .before .before .before .before .before .before .before .before .before .find-row .ensures) (c .before .before .before .before .before .before .before .before .before .before .before .before .before .row .given .1) in omega (arith, o .owner)
 
-cast-t18 : tie.Need-cast-t18
-cast-t18 c = search needs
+cast-next : tie.Need-cast-next
+cast-next c = search needs
 
-add-t25 : tie.Need-add-t25
-add-t25 c = let a = c .before .before .before .before .before .before .before .before .before .before .before .before .before .before .before .before .before .before .before .before .before .before .before .before .before .args in omega (arith, copy-lies (now (a .file)) (a .at) (a .end) (sym (c .before .before .before .before .before .before .before .before .before .before .before .before .before .before .before .before .before .before .k .given .1) ∙ c .before .before .before .before .before .before .before .before .before .before .before .before .before .before .before .before .before .before .before .before .read-copy .ensures), c .before .before .before .before .before .before .before .before .before .before .before .before .before .before .before .before .before .before .before .before .before .before .before .before .before .fits)
+add-next : tie.Need-add-next
+add-next c = let a = c .before .before .before .before .before .before .before .before .before .before .before .before .before .before .before .before .before .before .before .before .before .before .before .before .before .args in omega (arith, copy-lies (now (a .file)) (a .at) (a .end) (sym (c .before .before .before .before .before .before .before .before .before .before .before .before .before .before .before .before .before .before .k .given .1) ∙ c .before .before .before .before .before .before .before .before .before .before .before .before .before .before .before .before .before .before .before .before .read-copy .ensures), c .before .before .before .before .before .before .before .before .before .before .before .before .before .before .before .before .before .before .before .before .before .before .before .before .before .fits)
+
+found-row-requires : tie.Need-found-row-requires
+found-row-requires c κs = search needs
 
 same-length : tie.Need-same-length
 same-length c = search needs
@@ -97,7 +100,7 @@ same-length-2 : tie.Need-same-length-2
 same-length-2 c = search needs
 
 returns-7 : tie.Need-returns-7
-returns-7 c = let a = c .before .before .before .before .before .before .before .before .before .before .before .before .before .before .before .before .before .before .before .before .before .before .before .before .before .args in let o = sought (now (a .start)) (now (a .part)) (now (a .owner)) ((c .before .before .before .before .before .before .before .before .before .before .before .before .before .before .before .before .before .before .k .given .0 .0) .seekkey) _ (c .before .before .before .before .before .before .before .before .before .before .before .before .before .before .before .before .before .before .before .before .before .before .before .before .before .pre) (c .before .before .before .before .before .before .before .before .before .before .before .before .before .before .before .before .find-row .ensures) (c .before .before .before .before .before .before .before .before .before .before .before .before .before .before .row .given .1) in let h = entry (now (a .file)) (now (a .start)) (a .dir) (a .at) (c .before .before .before .before .before .before .before .before .before .before .before .before .before .before .before .before .before .before .k .given .0 .0) (o .start) (sym (c .before .before .before .before .before .before .before .before .before .before .before .before .read-piece .ensures .0) ∙ c .before .before .before .before .before .before .before .before .before .before .l .given .1) (c .before .before .before .before .before .before .before .same-at .ensures) (c .before .before .before .before .before .before .if1 .left) (c .before .before .before .before .if2 .left) in given (now (a .part)) (now (a .owner)) _ _ (a .dir) _ (copy-given (now (a .file)) (now (a .start)) (a .dir) (a .seek) (a .end) (now (a .part)) (now (a .owner)) (a .at) (sym (c .before .before .before .before .before .before .before .before .before .before .before .before .before .before .before .before .before .before .k .given .1) ∙ c .before .before .before .before .before .before .before .before .before .before .before .before .before .before .before .before .before .before .before .before .read-copy .ensures) h (o .row) (c .before .before .if3 .left) (mark-is (now (a .file)) _ (sym (c .before .before .before .before .before .before .before .before .before .before .before .before .read-piece .ensures .0) ∙ c .before .before .before .before .before .before .before .before .before .before .l .given .1) (c .before .mark-of .ensures)))
+returns-7 c = let a = c .before .before .before .before .before .before .before .before .before .before .before .before .before .before .before .before .before .before .before .before .before .before .before .before .before .before .args in let o = sought (now (a .start)) (now (a .part)) (now (a .owner)) ((c .before .before .before .before .before .before .before .before .before .before .before .before .before .before .before .before .before .before .before .k .given .0 .0) .seekkey) _ (c .before .before .before .before .before .before .before .before .before .before .before .before .before .before .before .before .before .before .before .before .before .before .before .before .before .before .pre) (c .before .before .before .before .before .before .before .before .before .before .before .before .before .before .before .before .before .find-row .ensures) (c .before .before .before .before .before .before .before .before .before .before .before .before .before .before .before .row .given .1) in let h = entry (now (a .file)) (now (a .start)) (a .dir) (a .at) (c .before .before .before .before .before .before .before .before .before .before .before .before .before .before .before .before .before .before .before .k .given .0 .0) (o .start) (sym (c .before .before .before .before .before .before .before .before .before .before .before .before .before .read-piece .ensures .0) ∙ c .before .before .before .before .before .before .before .before .before .before .before .l .given .1) (c .before .before .before .before .before .before .before .before .same-at .ensures) (c .before .before .before .before .before .before .before .if1 .left) (c .before .before .before .before .before .if2 .left) in given (now (a .part)) (now (a .owner)) _ _ (a .dir) _ _ (o .part) (c .found-row .ensures) (copy-given (now (a .file)) (now (a .start)) (a .dir) (a .seek) (a .end) (now (a .part)) (now (a .owner)) (a .at) (sym (c .before .before .before .before .before .before .before .before .before .before .before .before .before .before .before .before .before .before .before .k .given .1) ∙ c .before .before .before .before .before .before .before .before .before .before .before .before .before .before .before .before .before .before .before .before .before .read-copy .ensures) h (o .row) (c .before .before .before .if3 .left) (mark-is (now (a .file)) _ (sym (c .before .before .before .before .before .before .before .before .before .before .before .before .before .read-piece .ensures .0) ∙ c .before .before .before .before .before .before .before .before .before .before .before .l .given .1) (c .before .before .mark-of .ensures)))
 
 pub one-copy-spec : {M : Type 1} → statement M
 one-copy-spec =
@@ -126,8 +129,9 @@ one-copy-spec =
     slice-write-part
     mul-owner
     slice-write-owner
-    cast-t18
-    add-t25
+    cast-next
+    add-next
+    found-row-requires
     same-length
     same-length-2
     returns-7)

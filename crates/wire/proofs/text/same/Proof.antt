@@ -2,9 +2,10 @@ use native.Mathlib.Omega.{arith}
 use borrow.Author.Needs.{needs}
 use Prim.Native.Nat.{_-_}
 use lib.ListN.{length}
-use Rattle.wire.proofs.Equal.{Comparing, began, turn, differ, ended, uneven}
+use Rattle.wire.proofs.Equal.{Comparing, began, turn, differ, ended, uneven, turn-four, differ-four}
 use Rattle.wire.proofs.text.same.Statement.{statement}
 use Rattle.wire.proofs.text.same.Tie as tie
+use Rattle.wire.proofs.number.word.Reads as word-reads
 
 abbrev Inv-loop : tie.InvT-loop
 Inv-loop a b i₀ i = Comparing a b i
@@ -18,14 +19,17 @@ returns c = uneven _ _ (λ e. omega arith)
 loop-holds : tie.Need-loop-holds Inv-loop μ-loop
 loop-holds c = began _ _ (omega arith)
 
-shared-slice-read-if2 : tie.Need-shared-slice-read-if2 Inv-loop μ-loop
-shared-slice-read-if2 c = search needs
+sub-if2 : tie.Need-sub-if2 Inv-loop μ-loop
+sub-if2 c = search needs
 
-shared-slice-read-if2-2 : tie.Need-shared-slice-read-if2-2 Inv-loop μ-loop
-shared-slice-read-if2-2 c = search needs
+shared-slice-read-if3 : tie.Need-shared-slice-read-if3 Inv-loop μ-loop
+shared-slice-read-if3 c = search needs
+
+shared-slice-read-if3-2 : tie.Need-shared-slice-read-if3-2 Inv-loop μ-loop
+shared-slice-read-if3-2 c = search needs
 
 returns-2 : tie.Need-returns-2 Inv-loop μ-loop
-returns-2 c = differ (c .before .before .before .before .loop .inv) (omega arith) (λ e. omega arith)
+returns-2 c = differ (c .before .before .before .before .before .loop .inv) (omega arith) (λ e. omega arith)
 
 add-i : tie.Need-add-i Inv-loop μ-loop
 add-i c = search needs
@@ -34,10 +38,28 @@ loop-less : tie.Need-loop-less Inv-loop μ-loop
 loop-less c = search needs
 
 loop-again : tie.Need-loop-again Inv-loop μ-loop
-loop-again c = turn (c .before .before .before .before .loop .inv) (omega arith) (omega arith)
+loop-again c = turn (c .before .before .before .before .before .loop .inv) (omega arith) (omega arith)
+
+word-requires : tie.Need-word-requires Inv-loop μ-loop
+word-requires c κs = omega arith
+
+word-requires-2 : tie.Need-word-requires-2 Inv-loop μ-loop
+word-requires-2 c κs = omega arith
 
 returns-3 : tie.Need-returns-3 Inv-loop μ-loop
-returns-3 c = ended (c .before .loop .inv) (omega arith)
+returns-3 c = differ-four _ _ _ _ _ (c .before .before .word .ensures) (c .before .word2 .ensures) (λ e. omega arith)
+
+add-i-2 : tie.Need-add-i-2 Inv-loop μ-loop
+add-i-2 c = search needs
+
+loop-less-2 : tie.Need-loop-less-2 Inv-loop μ-loop
+loop-less-2 c = search needs
+
+loop-again-2 : tie.Need-loop-again-2 Inv-loop μ-loop
+loop-again-2 c = turn-four _ _ (c .before .before .before .before .before .loop .inv) (omega arith) (c .before .before .word .ensures) (c .before .word2 .ensures) (omega arith)
+
+returns-4 : tie.Need-returns-4 Inv-loop μ-loop
+returns-4 c = ended (c .before .loop .inv) (omega arith)
 
 pub same-spec : {M : Type 1} → statement M
 same-spec =
@@ -47,10 +69,17 @@ same-spec =
     μ-loop
     returns
     loop-holds
-    shared-slice-read-if2
-    shared-slice-read-if2-2
+    sub-if2
+    shared-slice-read-if3
+    shared-slice-read-if3-2
     returns-2
     add-i
     loop-less
     loop-again
-    returns-3)
+    word-requires
+    word-requires-2
+    returns-3
+    add-i-2
+    loop-less-2
+    loop-again-2
+    returns-4)
