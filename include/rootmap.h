@@ -7,8 +7,20 @@
  * every case:
  *
  *    0  success
+ *    1  the file is shorter than its header, 100 bytes
+ *    2  it does not begin with "root"
+ *    3  its offsets are not four bytes wide: Version is 1,000,000 or more, or Units is not 4
+ *    4  BEGIN is not 100, or END is not the file's length or above 1,999,999,999
  *    5  no piece of that size stands at the place
  *    6  a record's key header is not well formed, or its SeekKey is not its place
+ *    7  unfinished: there are more pieces than rows
+ *    8  the head is bad
+ *    9  the free list is bad, or is not the gaps
+ *   10  the info record is not where the header says, or is none
+ *   11  a directory's header is bad
+ *   12  a directory's keys list is bad
+ *   13  a copy in a keys list is not that of a record of the directory
+ *   14  a record has two parts: it is listed twice, or is listed and a list
  *   15  a string is longer than 254 bytes
  *   16  the key header would not be well formed, or a value does not fit its field
  *   17  SeekKey + Nbytes lies beyond the buffer
@@ -21,8 +33,9 @@
  *   24  there are more elements than rows
  *
  * What the caller owes: no pointer is null, not even one of length 0; each points to as many
- * items as is said, aligned for their type; and memory that a function writes overlaps nothing
- * else that the call is given. Nothing is kept after a call, and nothing is allocated.
+ * items as is said, aligned for their type; memory that a function writes overlaps nothing else
+ * that the call is given; and nobody else writes to any of it during the call. Nothing is kept
+ * after a call, and nothing is allocated.
  */
 #ifndef ROOTMAP_H
 #define ROOTMAP_H
@@ -79,6 +92,29 @@ uint64_t rootmap_write_key(uint32_t nbytes, uint32_t version, uint32_t objlen, u
                            uint64_t seek_key, uint64_t seek_pdir, const uint8_t *class_name, size_t class_len,
                            const uint8_t *name, size_t name_len, const uint8_t *title, size_t title_len,
                            uint8_t *buf, size_t buf_len, uint64_t *place, uint64_t *count);
+
+/*
+ * Audits a whole file into three tables. There is room for as many rows as the shortest has.
+ *
+ * Passed: 0, place 0, count the pieces of the file. Row i, entry i of each table, describes piece i
+ * in file order: its start; its part, 0 gap, 1 head, 2 free list, 3 info, 4 keys list, 5 listed,
+ * 6 directory, 7 unlisted; its owner, the place of the directory that has the list (4) or lists the
+ * record (5, 6), else 0. Later entries are 0, to each table's own end.
+ *
+ * Refused: 1 to 14, and every entry of every table is 0. The first that applies is given, and all
+ * room but too little (7) gives the same. Count is 0, but for 7 the pieces of the file. Place is
+ *    1 to 4, 7    0
+ *    5, 6         the piece
+ *    8            100
+ *    9, 10        SeekFree, SeekInfo
+ *    11           the directory
+ *    12           SeekKeys of the directory
+ *    13           the copy
+ *    14           the directory, for its list, or the copy
+ */
+uint64_t rootmap_audit(const uint8_t *file, size_t file_len, uint32_t *start, size_t start_len,
+                       uint32_t *part, size_t part_len, uint32_t *owner, size_t owner_len,
+                       uint64_t *place, uint64_t *count);
 
 /*
  * Reads the unpacked StreamerInfo record at offset `at` of a whole file into a table of rows of six

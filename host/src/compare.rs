@@ -8,6 +8,7 @@ use crate::model::{date, Answer};
 use std::collections::BTreeMap;
 use std::hint::black_box;
 
+pub mod audit;
 pub mod info;
 mod table;
 

@@ -5,6 +5,7 @@
 
 use crate::model::key::NewKey;
 
+pub mod audit;
 pub mod info;
 
 /// Indices into the fields of `read_piece`.

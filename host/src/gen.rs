@@ -5,6 +5,7 @@ use crate::model::key::NewKey;
 pub mod faults;
 pub mod files;
 pub mod infos;
+pub mod nested;
 
 /// The splitmix64 generator.
 pub struct Rng(u64);

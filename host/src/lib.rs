@@ -6,9 +6,11 @@
 //! - `gen`: inputs, the same in every run.
 //! - `compare`: both on one input, and a comparison of all that they answer and write.
 //! - `timing`: what the benchmarks share.
+//! - `rootaudit`: the command of that name.
 
 pub mod compare;
 pub mod ffi;
 pub mod gen;
 pub mod model;
+pub mod rootaudit;
 pub mod timing;

@@ -14,6 +14,18 @@ pub fn best<T, R>(runs: usize, state: &mut T, ready: impl Fn(&mut T), run: impl 
     times.min().unwrap_or_default()
 }
 
+/// The shorter of two times, for each of several programs. Programs that take turns meet the same other
+/// work on the machine.
+pub fn shorter<const N: usize>(times: [Duration; N], others: [Duration; N]) -> [Duration; N] {
+    std::array::from_fn(|program| times[program].min(others[program]))
+}
+
+/// Prints a measured number beside what it may be at most.
+pub fn print_bar(what: &str, measured: f64, most: f64) {
+    let met = if measured <= most { "met" } else { "MISSED" };
+    println!("{what}: {measured:.2}, at most {most}: {met}");
+}
+
 /// One line: how many items, and the time of each program.
 pub struct Line {
     pub items: usize,
@@ -54,6 +66,6 @@ fn micros(time: Duration) -> f64 {
     time.as_secs_f64() * 1e6
 }
 
-fn quotient(one: Duration, other: Duration) -> f64 {
+pub fn quotient(one: Duration, other: Duration) -> f64 {
     one.as_secs_f64() / other.as_secs_f64()
 }

@@ -1,19 +1,13 @@
-//! Files written by ROOT, if ROOT_FILES names a folder of them.
+//! Files written by ROOT, walked piece by piece.
+
+mod root_folder;
 
 use kirovadzun_host::compare::{read_piece, write_again, Tally};
-use std::path::PathBuf;
-use std::{env, fs};
+use std::fs;
 
 #[test]
 fn root_files() {
-    let Some(folder) = env::var_os("ROOT_FILES") else {
-        println!("skipped: ROOT_FILES names no folder of *.root files");
-        return;
-    };
-    let mut paths: Vec<PathBuf> = fs::read_dir(&folder).unwrap().map(|entry| entry.unwrap().path()).collect();
-    paths.retain(|path| path.extension().is_some_and(|extension| extension == "root"));
-    paths.sort();
-    assert!(!paths.is_empty(), "no *.root file in {folder:?}");
+    let Some(paths) = root_folder::root_files() else { return };
     let mut tally = Tally::new("files written by ROOT");
     for path in &paths {
         let file = fs::read(path).unwrap();

@@ -16,7 +16,8 @@ use Rattle.key.specs.declared.header.Key.{Key}
 use Rattle.key.specs.declared.header.Header.the-variants.{Good, Bad}
 use Rattle.key.specs.declared.piece.Piece.the-variants.{Record}
 use Rattle.layout.specs.Keys.{copyIn}
-use Rattle.layout.specs.Name.{sameBytes, named, tDirectory}
+use Rattle.wire.specs.Name.{tDirectory}
+use Rattle.layout.specs.Name.{sameBytes, named}
 use Rattle.layout.proofs.Records.{passed}
 use Rattle.rules.specs.Entry.{isRecord, entryFits}
 use Rattle.rules.specs.Row.{starts, rowOf}

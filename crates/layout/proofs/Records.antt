@@ -7,19 +7,19 @@ use Rattle.key.specs.declared.piece.Piece.{Piece}
 use Rattle.key.proofs.Others.{record-there}
 use mathlib.Core.Bool.{Bool, true, false, not}
 use mathlib.Core.List.{List, [], _∷_}
-use mathlib.Core.Path.{refl, _≡_, sym, ap, _∙_, subst}
+use mathlib.Core.Path.{refl, _≡_, sym, ap, _∙_}
 use borrow.Author.Tests.{eq-eqb}
-use lib.Dec.{T}
 use Rattle.wire.specs.Check.{Check, all, All}
 use Rattle.wire.specs.declared.text.Text.{Text}
-use Rattle.wire.proofs.Checks.{yes-all, not-all, all-yes, picked, not-picked, from-picked}
+use Rattle.wire.proofs.Checks.{yes-all, not-all, all-yes, picked, not-picked, from-picked, false-true}
 use Rattle.key.specs.Header.{sumOf, headerIn}
 use Rattle.key.specs.declared.header.Key.{Key}
 use Rattle.key.specs.declared.header.Header.{Header}
 use Rattle.key.specs.declared.header.Header.the-variants.{Good, Bad}
 use Rattle.key.proofs.Headers.{from-good, sum-next}
 use Rattle.key.specs.declared.piece.Piece.the-variants.{Record, Gap, Refused}
-use Rattle.layout.specs.Name.{named, tFile, tDirectory, tList, streamerInfo}
+use Rattle.wire.specs.Name.{tFile, tDirectory, tList, streamerInfo}
+use Rattle.layout.specs.Name.{named}
 use Rattle.layout.proofs.Spans.{and-true}
 use Rattle.layout.specs.Dir.{headRecord, headOf, headDirIn}
 use Rattle.layout.specs.Keys.{listClass, listFits, listOf, freeFits, freeOf, freeIn, listIn, infoFits, infoOf, plainOr, copyIn}
@@ -28,9 +28,6 @@ use Rattle.layout.specs.declared.dirs.Dir.{Dir}
 use Rattle.layout.specs.declared.dirs.Dir.the-variants as dir
 
 -- a test that failed, or passed, behind a `!`
-false-true : {A : Type 0} → _≡_ {A = Bool} false true → A
-false-true e = absurd (subst T (sym e) tt)
-
 pub failed : (b n : Bool) → b ≡ n → not b ≡ true → n ≡ true → ⊥
 failed true n e h i = false-true h
 failed false n e h i = false-true (e ∙ i)

@@ -10,7 +10,8 @@ use Rattle.key.specs.Piece.{pieceAt}
 use Rattle.key.specs.declared.header.Key.{Key}
 use Rattle.key.specs.declared.piece.Piece.{Piece}
 use Rattle.key.specs.declared.piece.Piece.the-variants.{Record, Gap, Refused}
-use Rattle.layout.specs.Name.{named, tFile}
+use Rattle.wire.specs.Name.{tFile}
+use Rattle.layout.specs.Name.{named}
 use Rattle.layout.specs.declared.dirs.DirHead.{DirHead}
 use Rattle.layout.specs.declared.dirs.Dir.{Dir}
 use Rattle.layout.specs.declared.dirs.Dir.the-variants.{Held, Bad}

@@ -12,7 +12,8 @@ use Rattle.key.specs.declared.header.Header.{Header}
 use Rattle.key.specs.declared.header.Header.the-variants.{Good, Bad}
 use Rattle.key.specs.declared.piece.Piece.{Piece}
 use Rattle.key.specs.declared.piece.Piece.the-variants.{Record, Gap, Refused}
-use Rattle.layout.specs.Name.{named, tFile, tDirectory, tList, streamerInfo}
+use Rattle.wire.specs.Name.{tFile, tDirectory, tList, streamerInfo}
+use Rattle.layout.specs.Name.{named}
 use Rattle.layout.specs.declared.copies.Data.{Data}
 use Rattle.layout.specs.declared.copies.Data.the-variants as held
 

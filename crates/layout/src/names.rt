@@ -1,7 +1,8 @@
 // Names as bytes.
 ghost use mathlib.Core.Path.{_≡_};
 ghost use lib.ListN.{take, drop};
-ghost use Rattle.layout.specs.Name.{sameBytes, named, tFile, tDirectory, tList, streamerInfo};
+ghost use Rattle.wire.specs.Name.{tFile, tDirectory, tList, streamerInfo};
+ghost use Rattle.layout.specs.Name.{sameBytes, named};
 use wire::text::Text;
 use wire::text::same;
 

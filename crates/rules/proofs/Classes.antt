@@ -12,7 +12,7 @@ use Rattle.wire.specs.Check.{le, eq, yes, All, pick}
 use Rattle.wire.specs.Equal.{eqBytes}
 use Rattle.wire.specs.Text.{contentOf}
 use Rattle.wire.specs.declared.text.Text.{Text}
-use Rattle.wire.proofs.Checks.{all-yes, all-or, not-all}
+use Rattle.wire.proofs.Checks.{all-yes, all-or, not-all, false-true}
 use Rattle.wire.proofs.Equal.{eq-same}
 use Rattle.key.specs.Piece.{pieceAt}
 use Rattle.key.specs.declared.header.Key.{Key}
@@ -20,7 +20,8 @@ use Rattle.key.specs.declared.piece.Piece.{Piece}
 use Rattle.key.specs.declared.piece.Piece.the-variants.{Record, Gap, Refused}
 use Rattle.layout.specs.Dir.{headIn, headOf, headRecord}
 use Rattle.layout.specs.Keys.{freeIn, freeOf, freeFits, infoIn, infoOf, infoFits}
-use Rattle.layout.specs.Name.{named, tFile, tList}
+use Rattle.wire.specs.Name.{tFile, tList}
+use Rattle.layout.specs.Name.{named}
 use Rattle.layout.specs.declared.copies.Data.{Data}
 use Rattle.layout.specs.declared.copies.Data.the-variants as span
 use Rattle.layout.specs.declared.dirs.Dir.the-variants as dir
@@ -28,7 +29,6 @@ use Rattle.layout.specs.declared.dirs.DirHead.{DirHead}
 use Rattle.layout.specs.declared.file.FileHead.{FileHead}
 use Rattle.rules.specs.Free.{gapOf, freeData, freeHolds, infoHolds}
 use Rattle.rules.specs.Row.{starts}
-use Rattle.rules.proofs.Places.{false-true}
 
 -- a record whose class is this name
 abbrev pub Named : List ℕ → ℕ → List ℕ → Type 0

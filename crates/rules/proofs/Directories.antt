@@ -5,8 +5,6 @@ use mathlib.Core.List.{List, [], _∷_}
 use mathlib.Core.Logic.{_⊎_, inl, inr, ⊎-elim}
 use mathlib.Core.Path.{_≡_, refl, sym, ap, _∙_, subst}
 use native.Mathlib.Omega.{arith}
-use borrow.Author.Tests.{eq-eqb, eqb-true}
-use lib.Dec.{eqb}
 use lib.ListN.{length, getD}
 use Rattle.wire.specs.Check.{All, pick}
 use Rattle.wire.specs.Number.{numAt}
@@ -15,11 +13,11 @@ use Rattle.key.specs.declared.header.Key.{Key}
 use Rattle.layout.specs.declared.dirs.DirHead.{DirHead}
 use Rattle.layout.specs.declared.file.FileHead.{FileHead}
 use Rattle.rules.specs.Entry.{dirClass}
-use Rattle.rules.specs.Free.{gapOf}
 use Rattle.rules.specs.Partition.{Partition}
 use Rattle.rules.specs.Row.{starts, rowOf}
-use Rattle.rules.specs.Rules.{noKeys, Copies, Entries, Filled}
+use Rattle.rules.specs.Rules.{Iff, noKeys, Copies, Entries, Filled}
 use Rattle.rules.specs.Turn.{listedMark, firstPart}
+use Rattle.rules.proofs.Fixed.{Place, head, free, info, gap, other, place}
 use Rattle.rules.proofs.Graph.{Graph, Given, Early}
 use Rattle.rules.proofs.Items.{Item, item, Has}
 use Rattle.rules.proofs.Partitions.{above, rises}
@@ -28,52 +26,22 @@ use Rattle.rules.proofs.Runs.{Said, Gives, copied}
 
 -- the parts before the first directory
 module _ (s : List ℕ) (h : FileHead) (q : ℕ) where
+  early-at : Place s h q → Early (firstPart s h q)
+  early-at (head a b) = inr (inl b)
+  early-at (free x a b) = inr (inr (inr (inl b)))
+  early-at (info x y a b) = inr (inr (inr (inr b)))
+  early-at (gap x y z a b) = inr (inr (inl b))
+  early-at (other x y z a b) = inl b
+
   pub first-early : Early (firstPart s h q)
-  unfolding firstPart
-  first-early = go (eqb q 100) refl
-    where
-      last : (b : Bool) → Early (pick {A = ℕ} b 7 0)
-      last true = inl refl
-      last false = inr (inr (inl refl))
+  first-early = early-at (place s h q)
 
-      third : (b : Bool) → Early (pick b 3 (pick (eqb (gapOf (pieceAt s q)) 0) 7 0))
-      third true = inr (inr (inr (inr refl)))
-      third false = last (eqb (gapOf (pieceAt s q)) 0)
-
-      second : (b : Bool) → Early (pick b 2 (pick (eqb q (h .seekinfo)) 3 (pick (eqb (gapOf (pieceAt s q)) 0) 7 0)))
-      second true = inr (inr (inr (inl refl)))
-      second false = third (eqb q (h .seekinfo))
-
-      go : (b : Bool) → eqb q 100 ≡ b
-          → Early (pick b 9 (pick (eqb q (h .seekfree)) 2 (pick (eqb q (h .seekinfo)) 3 (pick (eqb (gapOf (pieceAt s q)) 0) 7 0))))
-      go true e = inr (inl refl)
-      go false e = second (eqb q (h .seekfree))
-
-  pub first-head : q ≡ 100 → firstPart s h q ≡ 9
-  unfolding firstPart
-  first-head e = rw (eq-eqb q 100 e)
-
-  pub head-first : firstPart s h q ≡ 9 → q ≡ 100
-  unfolding firstPart
-  head-first e = go (eqb q 100) refl e
-    where
-      last : (b : Bool) → pick {A = ℕ} b 7 0 ≡ 9 → ⊥
-      last true e = omega arith
-      last false e = omega arith
-
-      third : (b : Bool) → pick {A = ℕ} b 3 (pick (eqb (gapOf (pieceAt s q)) 0) 7 0) ≡ 9 → ⊥
-      third true e = omega arith
-      third false e = last (eqb (gapOf (pieceAt s q)) 0) e
-
-      second : (b : Bool) → pick {A = ℕ} b 2 (pick (eqb q (h .seekinfo)) 3 (pick (eqb (gapOf (pieceAt s q)) 0) 7 0)) ≡ 9 → ⊥
-      second true e = omega arith
-      second false e = third (eqb q (h .seekinfo)) e
-
-      go : (b : Bool) → eqb q 100 ≡ b
-          → pick {A = ℕ} b 9 (pick (eqb q (h .seekfree)) 2 (pick (eqb q (h .seekinfo)) 3 (pick (eqb (gapOf (pieceAt s q)) 0) 7 0))) ≡ 9
-          → q ≡ 100
-      go true f e = eqb-true q 100 f
-      go false f e = absurd (second (eqb q (h .seekfree)) e)
+  pub head-at : Place s h q → Iff (firstPart s h q ≡ 9) (q ≡ 100)
+  head-at (head a b) = (λ e. a, λ e. b)
+  head-at (free x a b) = (λ e. absurd (omega arith), λ e. absurd (x e))
+  head-at (info x y a b) = (λ e. absurd (omega arith), λ e. absurd (x e))
+  head-at (gap x y z a b) = (λ e. absurd (omega arith), λ e. absurd (x e))
+  head-at (other x y z a b) = (λ e. absurd (omega arith), λ e. absurd (x e))
 
 -- one list of copies
 pub one-list : (s : List ℕ) (end c : ℕ) (ks ls : List Key) → length ks ≡ length ls → Copies s end c ks → Copies s end c ls → ks ≡ ls
@@ -171,8 +139,8 @@ module _ (s : List ℕ) (h : FileHead) (qs : List ℕ) (p : Partition s 100 (len
     positive = λ i l. below-first i l;
     base = λ i. firstPart s h (getD qs i 0);
     early = λ i l. first-early s h (getD qs i 0);
-    head = λ i l e. head-first s h (getD qs i 0) e;
-    first = λ i l e. first-head s h (getD qs i 0) e;
+    head = λ i l e. head-at s h (getD qs i 0) (place s h (getD qs i 0)) .0 e;
+    first = λ i l e. head-at s h (getD qs i 0) (place s h (getD qs i 0)) .1 e;
     Says = λ j o its. Said s qs h j o its;
     unique = one-said;
     within = said-within;

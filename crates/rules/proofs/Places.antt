@@ -2,15 +2,13 @@
 use Prim.Native.Nat.{ℕ, _<_}
 use mathlib.Core.Bool.{Bool, true, false}
 use mathlib.Core.List.{List, [], _∷_}
-use mathlib.Core.Path.{_≡_, refl, sym, subst}
+use mathlib.Core.Path.{_≡_, refl}
 use native.Mathlib.Omega.{arith}
 use borrow.Author.Tests.{eqb-true}
-use lib.Dec.{eqb, T}
+use lib.Dec.{eqb}
 use lib.ListN.{length, getD}
+use Rattle.wire.proofs.Checks.{false-true}
 use Rattle.rules.specs.Row.{starts, rowOf}
-
-pub false-true : {A : Type 0} → _≡_ {A = Bool} false true → A
-false-true e = absurd (subst T (sym e) tt)
 
 -- where a piece starts at p, its row holds p
 pub row-in : (qs : List ℕ) (p : ℕ) → starts qs p ≡ true → (rowOf qs p < length qs) × (getD qs (rowOf qs p) 0 ≡ p)

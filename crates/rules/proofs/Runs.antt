@@ -11,7 +11,7 @@ use lib.Dec.{eqb, leb}
 use lib.ListN.{length, getD, set}
 use Rattle.wire.specs.Check.{all, All, pick}
 use Rattle.wire.specs.Number.{numAt}
-use Rattle.wire.proofs.Checks.{yes-all, not-all, all-or}
+use Rattle.wire.proofs.Checks.{yes-all, not-all, all-or, false-true}
 use Rattle.key.specs.declared.header.Key.{Key}
 use Rattle.key.specs.declared.header.Header.{Header}
 use Rattle.key.specs.declared.header.Header.the-variants.{Good, Bad}
@@ -27,7 +27,6 @@ use Rattle.rules.specs.Row.{starts, rowOf}
 use Rattle.rules.specs.Rules.{dirOf, noKeys, Copies, Entries, Filled}
 use Rattle.rules.specs.Turn.{Turn, going, stop, andThen, give, listedMark, onCopy, copyTurn, copies, ended, dataTurn, onData, keysIn, keysTurn, onDir, dirTurn}
 use Rattle.rules.proofs.Items.{Item, item, Assign}
-use Rattle.rules.proofs.Places.{false-true}
 
 -- a turn that went on did not stop
 pub stopped : {A : Type 0} {us vs : List ℕ} {e n p : ℕ} → going us vs e ≡ stop n p → A

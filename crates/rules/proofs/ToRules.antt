@@ -10,7 +10,7 @@ use Rattle.wire.specs.Check.{All}
 use Rattle.key.specs.Piece.{pieceAt}
 use Rattle.key.specs.declared.header.Key.{Key}
 use Rattle.layout.specs.Dir.{headIn}
-use Rattle.layout.specs.Name.{tFile, tList}
+use Rattle.wire.specs.Name.{tFile, tList}
 use Rattle.layout.specs.declared.dirs.Dir.the-variants as dir
 use Rattle.layout.specs.declared.dirs.DirHead.{DirHead}
 use Rattle.layout.specs.declared.file.FileHead.{FileHead}

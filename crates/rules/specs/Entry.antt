@@ -7,7 +7,8 @@ use Rattle.key.specs.Piece.{pieceAt}
 use Rattle.key.specs.declared.header.Key.{Key}
 use Rattle.key.specs.declared.piece.Piece.{Piece}
 use Rattle.key.specs.declared.piece.Piece.the-variants.{Record, Gap, Refused}
-use Rattle.layout.specs.Name.{sameBytes, named, tDirectory}
+use Rattle.wire.specs.Name.{tDirectory}
+use Rattle.layout.specs.Name.{sameBytes, named}
 use Rattle.rules.specs.Row.{starts}
 
 abbrev pub isRecord : Piece → Bool

@@ -23,7 +23,8 @@ use denote.Enum.Declared.{tagOf}
 use types.Run.{OneOf}
 use Rattle.key.proofs.piece.Piece.{the-type}
 use Rattle.wire.specs.Equal.{eqBytes}
-use Rattle.streamer.specs.Info.{sized as sizedBy, filling, wholeAt, listName, infoName, isInfo, listAt, recordAt, onPiece, infoAt, noRecord}
+use Rattle.wire.specs.Name.{tList, streamerInfo}
+use Rattle.streamer.specs.Info.{sized as sizedBy, filling, wholeAt, isInfo, listAt, recordAt, onPiece, infoAt, noRecord}
 use Rattle.streamer.specs.Field.{countAt}
 use Rattle.streamer.specs.declared.field.Count.{Count}
 use Rattle.streamer.specs.declared.field.Count.the-variants.{Open, Bad}
@@ -77,15 +78,15 @@ module _ (s : List ℕ) (k : Key) where
   is-plain : k .keylen ≡ sumOf k → all (plain k) ≡ true
   is-plain h = yes-all (plain k) (h, tt)
 
-  module _ (h : k .keylen ≡ sumOf k) (m : ℕ) (i : m ≡ k .class .len) {y : Bool} (is : y ≡ eqBytes (take m (drop (k .class .start) s)) listName) where
-    class-is : eqBytes (contentOf s (k .class)) listName ≡ y
+  module _ (h : k .keylen ≡ sumOf k) (m : ℕ) (i : m ≡ k .class .len) {y : Bool} (is : y ≡ eqBytes (take m (drop (k .class .start) s)) tList) where
+    class-is : eqBytes (contentOf s (k .class)) tList ≡ y
     unfolding contentOf
     class-is = rw (← i) (sym is)
 
     pub other-class : y ≡ false → false ≡ isInfo s k
     other-class g = rw (is-plain h, class-is, g)
 
-    pub by-name : y ≡ true → (l : ℕ) → l ≡ k .name .len → {x : Bool} → x ≡ eqBytes (take l (drop (k .name .start) s)) infoName → x ≡ isInfo s k
+    pub by-name : y ≡ true → (l : ℕ) → l ≡ k .name .len → {x : Bool} → x ≡ eqBytes (take l (drop (k .name .start) s)) streamerInfo → x ≡ isInfo s k
     unfolding contentOf
     by-name g l j d = rw (is-plain h, class-is, g, ← j) d
 

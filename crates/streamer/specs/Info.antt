@@ -1,12 +1,13 @@
 -- The StreamerInfo record: document 002, object by object; document 01, "StreamerInfo (002)".
 use Prim.Native.Nat.{ℕ, _+_, _-_, _/_}
-use mathlib.Core.List.{List, [], _∷_, _++_}
+use mathlib.Core.List.{List, _++_}
 use mathlib.Core.Bool.{Bool, _&&_}
 use lib.ListN.{length, set, replicate}
 use lib.Dec.{leb, eqb}
 use Rattle.wire.specs.Answer.{done, refusal}
 use Rattle.wire.specs.Check.{all, pick}
 use Rattle.wire.specs.Equal.{eqBytes}
+use Rattle.wire.specs.Name.{tList, streamerInfo}
 use Rattle.wire.specs.Number.{numAt}
 use Rattle.wire.specs.Text.{contentOf}
 use Rattle.key.specs.Header.{plain, unpackedData}
@@ -83,16 +84,9 @@ listAt s rec p e =
     sized stop (collectionAt s q f) (λ n.
     ends (times (classAt s rec f) (replicate 12 0) (n .next) (n .count)) f))
 
--- "TList" and "StreamerInfo"
-abbrev pub listName : List ℕ
-listName = 84 ∷ 76 ∷ 105 ∷ 115 ∷ 116 ∷ []
-
-abbrev pub infoName : List ℕ
-infoName = 83 ∷ 116 ∷ 114 ∷ 101 ∷ 97 ∷ 109 ∷ 101 ∷ 114 ∷ 73 ∷ 110 ∷ 102 ∷ 111 ∷ []
-
 -- "plain, TList, StreamerInfo"
 abbrev pub isInfo : List ℕ → Key → Bool
-isInfo s k = all (plain k) && (eqBytes (contentOf s (k .class)) listName && eqBytes (contentOf s (k .name)) infoName)
+isInfo s k = all (plain k) && (eqBytes (contentOf s (k .class)) tList && eqBytes (contentOf s (k .name)) streamerInfo)
 
 -- "5 or 6 as for a piece, a gap gives 20; then 20 unless plain, TList, StreamerInfo; then 19"
 unfoldable pub recordAt : List ℕ → ℕ → Key → Run

@@ -8,6 +8,9 @@ use lib.Dec.{T, ltb}
 use borrow.Author.Tests.{leb-true, ltb-true, ltb-false, eqb-true, le-leb, lt-ltb, eq-eqb}
 use Rattle.wire.specs.Check.{Check, le, lt, eq, yes, passes, Holds, all, All, pick}
 
+pub false-true : {A : Type 0} → _≡_ {A = Bool} false true → A
+false-true e = absurd (subst T (sym e) tt)
+
 passed : (c : Check) → Holds c → passes c ≡ true
 passed (le a b) h = le-leb a b h
 passed (lt a b) h = lt-ltb a b h

@@ -38,6 +38,8 @@ pub struct Item {
     pub copies: Vec<usize>,
     /// The data, or what follows those that are worked out.
     pub data: Vec<u8>,
+    /// How many zeros then follow.
+    pub zeros: usize,
     /// How many bytes are then dropped from the end.
     pub cut: usize,
 }
@@ -69,6 +71,7 @@ impl Item {
             list: None,
             copies: Vec::new(),
             data: Vec::new(),
+            zeros: 0,
             cut: 0,
         }
     }
@@ -172,22 +175,36 @@ impl Plan {
     }
 
     pub fn build(&self) -> Built {
+        let sites = self.sites();
+        let mut bytes = Vec::new();
+        for (at, laid) in self.laid(&sites) {
+            bytes.resize(at, 0);
+            bytes.extend(laid);
+        }
+        bytes.resize(end(&sites), 0);
+        Built { bytes, sites }
+    }
+
+    /// Where each piece stands.
+    pub fn sites(&self) -> Vec<Site> {
         // Lengths do not depend on where a piece stands: the first round only finds them.
         let mut sites = vec![Site::default(); self.items.len()];
         for _ in 0..2 {
-            let sizes: Vec<usize> = (0..self.items.len()).map(|index| self.piece(index, &sites).len()).collect();
+            let size = |(index, item): (usize, &Item)| self.piece(index, &sites).len() + item.zeros;
+            let sizes: Vec<usize> = self.items.iter().enumerate().map(size).collect();
             let mut start = BEGIN;
             for &index in &self.order {
                 sites[index] = self.site(index, start, sizes[index]);
                 start += sizes[index];
             }
         }
-        let pieces = self.order.iter().flat_map(|&index| self.piece(index, &sites));
-        let mut bytes = self.header(&sites);
-        bytes.extend(pieces);
-        let end = bytes.len() as u32;
-        bytes[12..16].copy_from_slice(&end.to_be_bytes());
-        Built { bytes, sites }
+        sites
+    }
+
+    /// What to lay down where, in file order: the header, then each piece. All else is zeros.
+    pub fn laid<'a>(&'a self, sites: &'a [Site]) -> impl Iterator<Item = (usize, Vec<u8>)> + 'a {
+        let pieces = self.order.iter().map(|&index| (sites[index].start, self.piece(index, sites)));
+        [(0, self.header(sites))].into_iter().chain(pieces)
     }
 
     fn site(&self, index: usize, start: usize, size: usize) -> Site {
@@ -204,7 +221,7 @@ impl Plan {
         Site { start, size, keylen, directory, nkeys, copies }
     }
 
-    /// The first 100 bytes, but for END.
+    /// The first 100 bytes.
     fn header(&self, sites: &[Site]) -> Vec<u8> {
         let [free, info] = [Role::Free, Role::Info].map(|role| self.find(role).map(|index| &sites[index]));
         let pair = |site: Option<&Site>| site.map_or([0; 2], |site| [site.start, site.size].map(|n| n as u32));
@@ -213,7 +230,8 @@ impl Plan {
         let nfree = free.map_or(0, |site| (site.size - site.keylen) / 10);
         let named = self.items[0].keylen() + self.items[0].names.len();
         let mut bytes = b"root".to_vec();
-        let numbers = [self.version, BEGIN as u32, 0, seek_free, nbytes_free, nfree as u32, named as u32];
+        let end = end(sites) as u32;
+        let numbers = [self.version, BEGIN as u32, end, seek_free, nbytes_free, nfree as u32, named as u32];
         bytes.extend(numbers.iter().flat_map(|number| number.to_be_bytes()));
         bytes.push(4);
         bytes.extend([self.compress, seek_info, nbytes_info].iter().flat_map(|number| number.to_be_bytes()));
@@ -275,10 +293,14 @@ impl Plan {
         let gaps = self.order.iter().filter(|&&index| self.items[index].role == Role::Gap);
         let mut segments: Vec<[usize; 2]> =
             gaps.map(|&gap| [sites[gap].start, sites[gap].start + sites[gap].size]).collect();
-        let end = BEGIN + sites.iter().map(|site| site.size).sum::<usize>();
-        segments.push([end, FREE_END as usize]);
+        segments.push([end(sites), FREE_END as usize]);
         segments.iter().flat_map(|segment| segment_bytes(version, segment.map(|n| n as u32))).collect()
     }
+}
+
+/// Where the file ends.
+pub fn end(sites: &[Site]) -> usize {
+    BEGIN + sites.iter().map(|site| site.size).sum::<usize>()
 }
 
 pub fn segment_bytes(version: u16, [first, last]: [u32; 2]) -> Vec<u8> {
@@ -380,7 +402,8 @@ pub fn deep_plan(rng: &mut Rng, depth: usize) -> Plan {
     plan
 }
 
-fn shuffle(rng: &mut Rng, items: &mut [usize]) {
+/// Any order of these.
+pub fn shuffle(rng: &mut Rng, items: &mut [usize]) {
     for i in (1..items.len()).rev() {
         items.swap(i, rng.below(i + 1));
     }

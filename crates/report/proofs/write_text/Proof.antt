@@ -1,0 +1,23 @@
+use Rattle.report.proofs.Reports.{no-room, in-room}
+use borrow.Author.Needs.{needs}
+use Rattle.report.proofs.write_text.Statement.{statement}
+use Rattle.report.proofs.write_text.Tie as tie
+
+no-room-requires : tie.Need-no-room-requires
+no-room-requires c κs = search needs
+
+returns : tie.Need-returns
+returns c = no-room _ _ (c .before .if1 .taken) (c .no-room .ensures)
+
+put-text-requires : tie.Need-put-text-requires
+put-text-requires c κs = search needs
+
+same-length : tie.Need-same-length
+same-length c = search needs
+
+returns-2 : tie.Need-returns-2
+returns-2 c = in-room _ _ (c .before .before .put-text .ensures)
+
+pub write-text-spec : {M : Type 1} → statement M
+write-text-spec =
+    tie.close (tie.spec no-room-requires returns put-text-requires same-length returns-2)

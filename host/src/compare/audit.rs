@@ -1,0 +1,54 @@
+//! The audit of one file by the proved library and by the model.
+
+use super::table::{dump, Table};
+use super::{answer_of, small_copy, Tally};
+use crate::ffi;
+use crate::model::audit::{self, Row};
+use crate::model::{rules, Answer};
+
+/// Audits with tables of these lengths. The answer, and the rows of a pass.
+pub fn audit(tally: &mut Tally, file: &[u8], lengths: [usize; 3]) -> (Answer, Vec<Row>) {
+    let [start_len, part_len, owner_len] = lengths;
+    let (answer, rows) = audit::audit(file, start_len.min(part_len).min(owner_len));
+    let copy = small_copy(file);
+    let garbage = tally.garbage();
+    let fill = [garbage as u32, 100, u32::MAX, 7][tally.inputs as usize % 4];
+    let mut tables = lengths.map(|len| Table::new(len, fill, garbage as u32));
+    let got =
+        answer_of(garbage, |place, count| ffi::audit::audit(file, tables.each_mut().map(Table::lent), place, count));
+    let [start, part, owner] = &mut tables;
+    let rows_hold = start.holds(rows.iter().map(|row| row.start))
+        && part.holds(rows.iter().map(|row| row.part))
+        && owner.holds(rows.iter().map(|row| row.owner));
+    if got != answer || !rows_hold {
+        let tables = tables.each_mut().map(|table| table.lent().iter().take(40).copied().collect::<Vec<_>>());
+        panic!(
+            "audit with tables of {lengths:?}\n library {got:?} {tables:?}\n   model {answer:?} {rows:?}\n{}",
+            dump(file)
+        );
+    }
+    assert!(copy.is_none_or(|copy| copy == file), "the audit changed the file");
+    tally.add(got.number);
+    (got, rows)
+}
+
+/// Audits with tables that have room for every piece, the shortest of them `more` than needed.
+pub fn audit_with_room(tally: &mut Tally, file: &[u8], more: usize) -> (Answer, Vec<Row>) {
+    let pieces = audit::pieces(file).unwrap_or(3) + more;
+    let lengths = match tally.inputs % 3 {
+        0 => [pieces, pieces + 1, pieces + 5],
+        1 => [pieces + 2, pieces, pieces],
+        _ => [pieces + 3, pieces + 1, pieces],
+    };
+    audit(tally, file, lengths)
+}
+
+/// The same, and the file passes exactly if one giving meets the rules, and has its rows. A small
+/// file only.
+pub fn audit_by_rules(tally: &mut Tally, file: &[u8]) -> (Answer, Vec<Row>) {
+    let (answer, rows) = audit_with_room(tally, file, 0);
+    let givings = rules::givings(file);
+    let expected = if answer.number == 0 { vec![rows.clone()] } else { Vec::new() };
+    assert!(givings == expected, "{answer:?} {rows:?}\n rules {givings:?}\n{}", dump(file));
+    (answer, rows)
+}

@@ -1,0 +1,38 @@
+//! The audit.
+
+mod c {
+    extern "C" {
+        pub fn rootmap_audit(
+            file: *const u8,
+            file_len: usize,
+            start: *mut u32,
+            start_len: usize,
+            part: *mut u32,
+            part_len: usize,
+            owner: *mut u32,
+            owner_len: usize,
+            place: *mut u64,
+            count: *mut u64,
+        ) -> u64;
+    }
+}
+
+/// The tables are start, part and owner.
+pub fn audit(file: &[u8], tables: [&mut [u32]; 3], place: &mut u64, count: &mut u64) -> u64 {
+    let [start, part, owner] = tables;
+    // SAFETY: each pointer goes with its slice's length; what is lent as `&mut` overlaps nothing.
+    unsafe {
+        c::rootmap_audit(
+            file.as_ptr(),
+            file.len(),
+            start.as_mut_ptr(),
+            start.len(),
+            part.as_mut_ptr(),
+            part.len(),
+            owner.as_mut_ptr(),
+            owner.len(),
+            place,
+            count,
+        )
+    }
+}

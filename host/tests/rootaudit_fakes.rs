@@ -1,0 +1,168 @@
+//! The command rootaudit over audits that are not the library's: an audit that is not finished is never
+//! a pass, nor is an answer that the interface does not have, nor a file that changes meanwhile.
+
+use kirovadzun_host::gen::one_root;
+use kirovadzun_host::model::Answer;
+use kirovadzun_host::rootaudit::verdict::{examine, first_room, Verdict};
+use kirovadzun_host::rootaudit::{progress, run, words, Audit, Console, FAILED};
+use std::cell::RefCell;
+use std::ffi::OsString;
+use std::fs::{self, OpenOptions};
+use std::io::{self, Write};
+use std::path::{Path, PathBuf};
+use std::thread;
+use std::time::Duration;
+
+fn store(name: &str, bytes: &[u8]) -> PathBuf {
+    let path = Path::new(env!("CARGO_TARGET_TMPDIR")).join(name);
+    fs::write(&path, bytes).unwrap();
+    path
+}
+
+/// The command with another audit: its exit status and what it prints.
+fn rootaudit(path: &Path, audit: Audit) -> (u8, String) {
+    let (mut out, mut errors) = (Vec::new(), Vec::new());
+    let mut console = Console { out: &mut out, errors: &mut errors, terminal: None };
+    let status = run(["--rows".into(), OsString::from(path)], audit, &mut console);
+    assert!(errors.is_empty());
+    (status, String::from_utf8(out).unwrap())
+}
+
+/// Fails unless the one line says that the file was not audited.
+fn expect_failure(path: &Path, audit: Audit) {
+    let (status, out) = rootaudit(path, audit);
+    assert_eq!((status, out.lines().count()), (FAILED, 1), "{out}");
+    assert!(out.starts_with(&format!("{}: not audited", path.display())) && !out.contains("passed"), "{out}");
+}
+
+#[test]
+fn unfinished_is_never_a_pass() {
+    let path = store("fake_unfinished.root", &vec![0; 1 << 20]);
+    let most = (1 << 20) / 4;
+    for count in [0, 1, 5, 1023, 1024, 1025, 5000, most, most + 1, u32::MAX.into(), u64::MAX] {
+        let rooms = RefCell::new(Vec::new());
+        let audit = |_: &[u8], tables: [&mut [u32]; 3]| {
+            let [start, part, owner] = tables;
+            assert_eq!([start.len(); 2], [part.len(), owner.len()]);
+            // Rows as of a pass.
+            (start[0], part[0]) = (100, 1);
+            rooms.borrow_mut().push(start.len() as u64);
+            Answer { number: 7, place: 0, count }
+        };
+        expect_failure(&path, &audit);
+        // A second audit if the count can be true, with so many rows, and no third.
+        let second = (1025..=most).contains(&count).then_some(count);
+        assert_eq!(rooms.into_inner(), [1024].into_iter().chain(second).collect::<Vec<u64>>());
+    }
+}
+
+/// More pieces at each audit, as if the file grew.
+#[test]
+fn unfinished_again() {
+    let path = store("fake_again.root", &vec![0; 1 << 20]);
+    let audit = |_: &[u8], [start, ..]: [&mut [u32]; 3]| Answer { number: 7, place: 0, count: start.len() as u64 + 1 };
+    expect_failure(&path, &audit);
+}
+
+#[test]
+fn answers_that_are_none() {
+    let path = store("fake_numbers.root", &one_root());
+    for number in [15, 18, 24, 25, u64::MAX] {
+        expect_failure(&path, &|_, _| Answer { number, place: 0, count: 5 });
+    }
+    // A pass of no pieces, or of more than there are rows.
+    for count in [0, 1025, u64::MAX] {
+        expect_failure(&path, &|_, _| Answer { number: 0, place: 0, count });
+    }
+}
+
+/// As many rows as the first answer says, and they are the verdict's.
+#[test]
+fn a_second_audit() {
+    let file = vec![0; 100_000];
+    let audit = |_: &[u8], [start, part, owner]: [&mut [u32]; 3]| {
+        if start.len() < 2000 {
+            return Answer { number: 7, place: 0, count: 2000 };
+        }
+        assert_eq!([start.len(), part.len(), owner.len()], [2000; 3]);
+        for (row, start) in start.iter_mut().enumerate() {
+            *start = 100 + 4 * row as u32;
+        }
+        part[1999] = 6;
+        owner[1999] = 100;
+        Answer { number: 0, place: 0, count: 2000 }
+    };
+    let Verdict::Passed(tables) = examine(&file, &audit) else { panic!("no pass") };
+    assert_eq!([tables.start.len(), tables.part.len(), tables.owner.len()], [2000; 3]);
+    assert_eq!((tables.start[1999], tables.part[1999], tables.owner[1999], tables.end), (8096, 6, 100, 100_000));
+}
+
+#[test]
+fn every_refusal_has_words() {
+    let file = one_root();
+    let mut said: Vec<&str> = Vec::new();
+    for number in (1..=14).filter(|&number| number != 7) {
+        let answer = Answer::refusal(number, 309);
+        assert_eq!(examine(&file, &|_, _| answer), Verdict::Refused(answer));
+        said.push(words::refusal(number));
+    }
+    said.push(words::refusal(15));
+    said.sort();
+    said.dedup();
+    assert_eq!(said.len(), 14, "two refusals have the same words");
+}
+
+#[test]
+fn rooms_to_begin_with() {
+    for (len, room) in [(0, 1024), (1 << 20, 1024), (1 << 21, 2048), (500_000_000, 488_281), (1 << 32, 1 << 20)] {
+        assert_eq!(first_room(len), room);
+    }
+}
+
+/// A file that is written to while it is audited.
+#[test]
+fn a_change_is_seen() {
+    let path = store("fake_changed.root", &one_root());
+    let grow = |_: &[u8], _: [&mut [u32]; 3]| {
+        OpenOptions::new().append(true).open(&path).unwrap().write_all(b"more").unwrap();
+        Answer::success(5)
+    };
+    expect_failure(&path, &grow);
+    let path = store("fake_touched.root", &one_root());
+    let touch = |_: &[u8], _: [&mut [u32]; 3]| {
+        thread::sleep(Duration::from_millis(30));
+        fs::write(&path, one_root()).unwrap();
+        Answer::success(5)
+    };
+    expect_failure(&path, &touch);
+}
+
+/// What cannot be printed is no success.
+#[test]
+fn output_that_fails() {
+    struct Full;
+    impl Write for Full {
+        fn write(&mut self, _: &[u8]) -> io::Result<usize> {
+            Err(io::Error::other("full"))
+        }
+        fn flush(&mut self) -> io::Result<()> {
+            Ok(())
+        }
+    }
+    let path = store("fake_output.root", &one_root());
+    let mut errors = Vec::new();
+    let mut console = Console { out: &mut Full, errors: &mut errors, terminal: None };
+    assert_eq!(run([path.into()], &|_, _| Answer::success(5), &mut console), FAILED);
+    assert_eq!(String::from_utf8(errors).unwrap(), "rootaudit: output: full\n");
+}
+
+#[test]
+fn progress_is_shown_and_removed() {
+    let mut terminal = Vec::new();
+    assert_eq!(progress::watch("a.root", &mut terminal, Duration::from_secs(600), || 7), 7);
+    assert!(terminal.is_empty(), "a line for an audit that takes no time");
+    let pause = Duration::from_millis(20);
+    progress::watch("a.root", &mut terminal, pause, || thread::sleep(15 * pause));
+    let shown = String::from_utf8(terminal).unwrap();
+    assert!(shown.starts_with("\ra.root: auditing, ") && shown.ends_with(" s\r\x1b[K"), "{shown:?}");
+}
