@@ -5,10 +5,10 @@ use mathlib.Core.List.{List}
 use mathlib.Core.Logic.{⊎-elim}
 use mathlib.Core.Path.{_≡_, refl, sym, ap, _∙_, subst}
 use native.Mathlib.Omega.{arith}
-use borrow.Author.Tests.{eq-eqb, ne-eqb, le-leb, lt-leb, leb-false}
+use borrow.Author.Tests.{eq-eqb, ne-eqb, le-leb, lt-leb}
 use lib.Dec.{T, leb}
 use lib.ListN.{length, getD, set, length-set}
-use lib.Seq.{getD-set-same, getD-set-other}
+use lib.Seq.{getD-set-other}
 use Rattle.wire.specs.Check.{All, pick}
 use Rattle.wire.proofs.Checks.{yes-all, not-all}
 use Rattle.key.specs.Piece.{pieceAt}
@@ -24,7 +24,7 @@ use Rattle.rules.specs.Row.{starts, rowOf}
 use Rattle.rules.specs.Turn.{Turn, going, stop, andThen, give, listedMark, onCopy, copyTurn, copies}
 use Rattle.rules.proofs.Items.{same?}
 use Rattle.rules.proofs.Rows.{start-there, no-start, row-of}
-use Rattle.audit.specs.Listing.{Ran, Quiet, Tables}
+use Rattle.audit.specs.Listing.{Ran, Quiet, Calm, Tables}
 use Rattle.audit.specs.Row.{RowOf}
 use Rattle.audit.specs.declared.rows.Row.{Row}
 use Rattle.audit.specs.declared.rows.Row.the-variants.{At, Nothing}
@@ -148,26 +148,29 @@ module _ (s qs : List ℕ) (d seek end : ℕ) (ps os : List ℕ) (c : ℕ) where
 pub found-here : (m i n : ℕ) → 8 ≤ m → _≡_ {A = ℕ} i (pick (leb 8 m) i n)
 found-here m i n l = rw (le-leb 8 m l)
 
+pub found-low : (m i n f g : ℕ) → f ≡ pick (leb 8 m) i n → g ≤ f → 8 ≤ m → g ≤ i
+found-low m i n f g e l h = let x = e ∙ sym (found-here m i n h) in omega arith
+
 pub found-none : (m i n : ℕ) → m < 8 → _≡_ {A = ℕ} n (pick (leb 8 m) i n)
 found-none m i n l = rw (lt-leb 8 m l)
 
--- a row that is set: below the row that is told no directory is found
-set-quiet : (ps : List ℕ) (i m n : ℕ) (b : Bool) → i < length ps → leb 8 m ≡ b → (j : ℕ) → j < pick b i n → 8 ≤ getD (set ps i m) j 0
-    → 8 ≤ getD ps j 0
-set-quiet ps i m n true k e j l h = rw (getD-set-other ps i j m 0 (λ f. omega arith)) at h
-set-quiet ps i m n false k e j l h =
-    ⊎-elim
-    (λ (f : j ≡ i). let x = leb-false 8 m e in let y = getD-set-same ps i m 0 k in let z = ap (λ (r : ℕ). getD (set ps i m) r 0) f in absurd (omega arith))
-    (λ (f : j ≡ i → ⊥). rw (getD-set-other ps i j m 0 f) at h)
-    (same? j i)
-
-pub given : (ps os : List ℕ) (i m d c n : ℕ) {x : Turn} {low : ℕ} → i < length ps → low ≡ pick (leb 8 m) i n
-    → x ≡ going (set ps i m) (set os i d) c
-    → Ran x (Next c low) (set ps i m) (set os i d) × Quiet ps (set ps i m) (Next c low)
-given ps os i m d c n {x} {low} k o e = (
-  ran-next (set ps i m) (set os i d) c low e,
-  quiet-next ps (set ps i m) c low (λ j l h. set-quiet ps i m n (leb 8 m) k refl j (subst (λ (r : ℕ). j < r) o l) h),
+-- a row that is set: no other holds a directory that was found
+pub given : (ps os : List ℕ) (i m d c : ℕ) {x : Turn} → i < length ps → x ≡ going (set ps i m) (set os i d) c
+    → Ran x (Next c i) (set ps i m) (set os i d) × Calm ps (set ps i m) (Next c i)
+unfolding Calm
+given ps os i m d c k e = (
+  ran-next (set ps i m) (set os i d) c i e,
+  (rw length-set k, λ j n h. rw (getD-set-other ps i j m 0 n) at h),
 )
+
+pub copy-stopped : (ps us vs : List ℕ) (n p : ℕ) {x : Turn} → x ≡ stop n p → Ran x (Fault n p) us vs × Calm ps us (Fault n p)
+unfolding Calm
+copy-stopped ps us vs n p e = (ran-fault us vs n p e, tt)
+
+pub told-row : (ps us : List ℕ) {r : Listed} {at row : ℕ} → r ≡ Next at row → Calm ps us r
+    → (row < length us) × ((i : ℕ) → (i ≡ row → ⊥) → 8 ≤ getD us i 0 → 8 ≤ getD ps i 0)
+unfolding Calm
+told-row ps us e h = rw e at h
 
 -- while copies are listed: what is left decides
 pub record Copying (s qs : List ℕ) (d seek end count : ℕ) (ps os : List ℕ) (from left : ℕ) (us vs : List ℕ) (at low : ℕ) : Type 0 where
@@ -189,16 +192,19 @@ module _ {s qs : List ℕ} {d seek end count : ℕ} {ps os : List ℕ} {from lef
       w .run ∙ ap (λ (n : ℕ). copies s qs d seek end n us vs at) e
 
   pub copied : 0 < left → (r : Listed) (us′ vs′ : List ℕ) (low′ : ℕ) {next row : ℕ} → r ≡ Next next row
-      → Ran (copyTurn s qs d seek end us vs at) r us′ vs′ × Quiet us us′ r → length us′ ≡ length us → length vs′ ≡ length vs
-      → low′ ≤ low → low′ ≤ row → Copying s qs d seek end count ps os from (left - 1) us′ vs′ next low′
+      → Ran (copyTurn s qs d seek end us vs at) r us′ vs′ × Calm us us′ r → length us′ ≡ length us → length vs′ ≡ length vs
+      → low′ ≤ low → (8 ≤ getD us′ row 0 → low′ ≤ row) → Copying s qs d seek end count ps os from (left - 1) us′ vs′ next low′
   copied l r us′ vs′ low′ {next} {row} e h m n k o =
       let f = next-is (copyTurn s qs d seek end us vs at) us′ vs′ next row (rw e at (h .0)) in
-      let g = from-quiet us us′ next row (rw e at (h .1)) in
+      let g = told-row us us′ e (h .1) in
       record {
         run = one-left l ∙ ap (andThen (copies s qs d seek end (left - 1))) f;
         parts = m ∙ w .parts;
         owners = n ∙ w .owners;
-        quiet = λ i z y. w .quiet i (omega arith) (g i (omega arith) y);
+        quiet = λ i z y. ⊎-elim
+            (λ (q : i ≡ row). absurd (omega (arith, o (subst (λ (j : ℕ). 8 ≤ getD us′ j 0) q y))))
+            (λ (q : i ≡ row → ⊥). w .quiet i (omega arith) (g .1 i q y))
+            (same? i row);
       }
 
   pub cut-short : 0 < left → (r : Listed) (us′ vs′ : List ℕ) {n p : ℕ} → r ≡ Fault n p → Ran (copyTurn s qs d seek end us vs at) r us′ vs′

@@ -29,6 +29,11 @@ unfoldable pub DoneTo : List ℕ → Listed → Type 0
 DoneTo us (Next at low) = Done us low
 DoneTo us (Fault n p) = Unit
 
+-- no row but the one that is told holds a directory that was found
+unfoldable pub Calm : List ℕ → List ℕ → Listed → Type 0
+Calm ps us (Next at row) = (row < length us) × ((i : ℕ) → (i ≡ row → ⊥) → 8 ≤ getD us i 0 → 8 ≤ getD ps i 0)
+Calm ps us (Fault n p) = Unit
+
 -- three tables of one length, the starts rising
 pub record Tables (start part owner : List ℕ) : Type 0 where
   pub rising : Rising start (length start)

@@ -7,10 +7,11 @@ ghost use Rattle.wire.specs.Check.{pick};
 ghost use Rattle.wire.specs.Name.{tDirectory};
 ghost use Rattle.layout.specs.Name.{named};
 ghost use Rattle.rules.specs.Turn.{copyTurn, copies, dataTurn, keysTurn};
-ghost use Rattle.audit.specs.Listing.{Ran, Quiet, Tables};
+ghost use Rattle.audit.specs.Listing.{Ran, Quiet, Calm, Tables};
 use crate::rows::Row;
 use crate::rows::find_row;
 use crate::rows::long;
+use crate::rows::seek_row;
 use key::header::Header;
 use key::header::Key;
 use key::piece::Piece;
@@ -23,7 +24,7 @@ use layout::names::is_directory;
 use layout::names::same_at;
 use wire::number::be32;
 
-// The next place of a list and the lowest row of a directory that was found, or the first refusal.
+// The next place of a list and a row, of a copy its own, else the lowest of a directory that was found; or the first refusal.
 pub enum Listed {
     Next(usize, usize),
     Fault(u32, usize),
@@ -39,14 +40,14 @@ fn mark_of(file: &[u8], k: Key) -> u32
     5
 }
 
-// The row, if a directory was found in it; else the number of rows.
-fn found_row(mark: u32, row: usize, rows: usize) -> usize
-    ensures { λ r. ⌜ r ≡ pick (leb 8 mark) row rows ⌝ }
+// The row, if a directory was found in it; else another.
+fn found_row(mark: u32, row: usize, other: usize) -> usize
+    ensures { λ r. ⌜ r ≡ pick (leb 8 mark) row other ⌝ }
 {
     if 8 <= mark {
         return row;
     }
-    rows
+    other
 }
 
 // One copy of a keys list.
@@ -59,15 +60,16 @@ fn one_copy(
     seek: u32,
     end: usize,
     at: usize,
+    near: usize,
 ) -> Listed
     requires { ⌜ Tables (now start) (now part) (now owner) ⌝ }
-    ensures { λ r. ⌜ Ran (copyTurn (now (file .entry)) (now (start .entry)) dir seek end (now (part .entry)) (now (owner .entry)) at) r (now (part .exit)) (now (owner .exit)) × Quiet (now (part .entry)) (now (part .exit)) r ⌝ }
+    ensures { λ r. ⌜ Ran (copyTurn (now (file .entry)) (now (start .entry)) dir seek end (now (part .entry)) (now (owner .entry)) at) r (now (part .exit)) (now (owner .exit)) × Calm (now (part .entry)) (now (part .exit)) r ⌝ }
 {
     let Header::Good(k) = read_copy(file, at, end) else {
         return Listed::Fault(12, seek as usize);
     };
     let place = k.seekkey as usize;
-    let Row::At(row) = find_row(start, place) else {
+    let Row::At(row) = seek_row(start, place, near) else {
         return Listed::Fault(13, at);
     };
     let Piece::Record(l) = read_piece(file, place) else {
@@ -82,11 +84,10 @@ fn one_copy(
     if part[row] != 7 {
         return Listed::Fault(14, at);
     }
-    let mark = mark_of(file, l);
-    part[row] = mark;
+    part[row] = mark_of(file, l);
     owner[row] = dir;
     let next = at + k.keylen as usize;
-    Listed::Next(next, found_row(mark, row, start.len()))
+    Listed::Next(next, row)
 }
 
 // Some copies of a keys list, one after the other.
@@ -107,14 +108,17 @@ fn list_copies(
     let mut at = from;
     let mut left = count;
     let mut low = part.len();
+    let mut near: usize = 0;
     while 0 < left {
-        let r = one_copy(file, start, part, owner, dir, seek, end, at);
+        let r = one_copy(file, start, part, owner, dir, seek, end, at, near);
         let Listed::Next(next, row) = r else {
             return r;
         };
-        if row < low {
-            low = row;
+        let found = found_row(part[row], row, low);
+        if found < low {
+            low = found;
         }
+        near = row + 1;
         at = next;
         left -= 1;
     }

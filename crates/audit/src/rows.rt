@@ -37,3 +37,16 @@ pub(crate) fn find_row(start: &[u32], place: usize) -> Row
     }
     Row::Nothing
 }
+
+// The same, where the row is likely to be this one.
+pub(crate) fn seek_row(start: &[u32], place: usize, near: usize) -> Row
+    requires { ⌜ Rising (now start) (length (now start)) ⌝ }
+    ensures { λ r. ⌜ RowOf (now (start .entry)) place r ⌝ }
+{
+    if near < start.len() {
+        if long(start[near]) == place {
+            return Row::At(near);
+        }
+    }
+    find_row(start, place)
+}

@@ -4,10 +4,10 @@ use Rattle.audit.proofs.keys.found_row.Statement.{statement}
 use Rattle.audit.proofs.keys.found_row.Tie as tie
 
 returns : tie.Need-returns
-returns c = let a = c .before .args in found-here (a .mark) (a .row) (a .rows) (omega arith)
+returns c = let a = c .before .args in found-here (a .mark) (a .row) (a .other) (omega arith)
 
 returns-2 : tie.Need-returns-2
-returns-2 c = let a = c .before .args in found-none (a .mark) (a .row) (a .rows) (omega arith)
+returns-2 c = let a = c .before .args in found-none (a .mark) (a .row) (a .other) (omega arith)
 
 pub found-row-spec : {M : Type 1} → statement M
 found-row-spec = tie.close (tie.spec returns returns-2)

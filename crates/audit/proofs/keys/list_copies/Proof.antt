@@ -1,16 +1,17 @@
 use mathlib.Core.Logic.{⊎-elim}
-use Rattle.audit.proofs.Listings.{tables-kept, Copying, began, copied, cut-short, all-copied}
 use native.Mathlib.Omega.{arith}
 use borrow.Author.Needs.{needs}
+use Rattle.audit.proofs.Listings.{tables-kept, Copying, began, copied, cut-short, all-copied, told-row, found-low}
 use Rattle.audit.proofs.keys.list_copies.Statement.{statement}
 use Rattle.audit.proofs.keys.list_copies.Tie as tie
+use Rattle.audit.proofs.keys.found_row.Reads as found-row-reads
 use Rattle.audit.proofs.keys.one_copy.Reads as one-copy-reads
 
 abbrev Inv-loop : tie.InvT-loop
-Inv-loop file start part₀ owner₀ dir seek end from count at₀ left₀ low₀ part owner at left low = Copying file start dir seek end count part₀ owner₀ from left part owner at low
+Inv-loop file start part₀ owner₀ dir seek end from count at₀ left₀ low₀ near₀ part owner at left low near = Copying file start dir seek end count part₀ owner₀ from left part owner at low
 
 abbrev μ-loop : tie.MeasureT-loop
-μ-loop file start part₀ owner₀ dir seek end from count at₀ left₀ low₀ part owner at left low = left
+μ-loop file start part₀ owner₀ dir seek end from count at₀ left₀ low₀ near₀ part owner at left low near = left
 
 loop-holds : tie.Need-loop-holds Inv-loop μ-loop
 loop-holds c = began _ _ _ _ _ _ _ _ _ _
@@ -33,6 +34,18 @@ same-length-2 c = search needs
 returns : tie.Need-returns Inv-loop μ-loop
 returns c = cut-short (c .before .before .before .before .before .before .before .before .before .before .loop .inv) (omega arith) _ _ _ (c .enum-told .given .1) (c .before .before .before .before .before .before .one-copy .ensures .0)
 
+mul-found-row : tie.Need-mul-found-row Inv-loop μ-loop
+mul-found-row c = let t = told-row _ _ (c .before .r .given .1) (c .before .before .before .before .before .before .before .one-copy .ensures .1) in let k = c .before .before .before .before .before .before .before .one-copy .kept in let w = c .before .before .before .before .before .before .before .before .before .before .before .loop .inv in omega (arith, t .0, w .parts, k .1 .1 .0, c .before .before .before .before .before .before .before .before .before .before .before .before .before .before .before .before .good)
+
+slice-read-found-row : tie.Need-slice-read-found-row Inv-loop μ-loop
+slice-read-found-row c = let t = told-row _ _ (c .before .before .r .given .1) (c .before .before .before .before .before .before .before .before .one-copy .ensures .1) in let k = c .before .before .before .before .before .before .before .before .one-copy .kept in let w = c .before .before .before .before .before .before .before .before .before .before .before .before .loop .inv in omega (arith, t .0)
+
+found-row-requires : tie.Need-found-row-requires Inv-loop μ-loop
+found-row-requires c κs = search needs
+
+add-near : tie.Need-add-near Inv-loop μ-loop
+add-near c = let t = told-row _ _ (c .before .before .before .before .r .given .1) (c .before .before .before .before .before .before .before .before .before .before .one-copy .ensures .1) in let k = c .before .before .before .before .before .before .before .before .before .before .one-copy .kept in let w = c .before .before .before .before .before .before .before .before .before .before .before .before .before .before .loop .inv in omega (arith, t .0, w .parts, k .1 .1 .0, c .before .before .before .before .before .before .before .before .before .before .before .before .before .before .before .before .before .before .before .good)
+
 sub-left : tie.Need-sub-left Inv-loop μ-loop
 sub-left c = search needs
 
@@ -40,9 +53,10 @@ loop-less : tie.Need-loop-less Inv-loop μ-loop
 loop-less c = search needs
 
 loop-again : tie.Need-loop-again Inv-loop μ-loop
-loop-again c = let k = c .before .before .before .before .before .before .before .before .one-copy .kept in
-    copied (c .before .before .before .before .before .before .before .before .before .before .before .before .loop .inv) (omega arith) _ _ _ _ (c .before .before .r .given .1) (c .before .before .before .before .before .before .before .before .one-copy .ensures) (k .1 .1 .0) (k .1 .1 .1 .0)
-    (⊎-elim (λ x. omega (arith, x)) (λ x. omega (arith, x)) (c .if1 .came)) (⊎-elim (λ x. omega (arith, x)) (λ x. omega (arith, x)) (c .if1 .came))
+loop-again c = let k = c .before .before .before .before .before .before .before .before .before .before .one-copy .kept in
+    copied (c .before .before .before .before .before .before .before .before .before .before .before .before .before .before .loop .inv) (omega arith) _ _ _ _ (c .before .before .before .before .r .given .1) (c .before .before .before .before .before .before .before .before .before .before .one-copy .ensures) (k .1 .1 .0) (k .1 .1 .1 .0)
+    (⊎-elim (λ x. omega (arith, x)) (λ x. omega (arith, x)) (c .if1 .came))
+    (λ h. found-low _ _ _ _ _ (c .before .found-row .ensures) (⊎-elim (λ x. omega (arith, x)) (λ x. omega (arith, x)) (c .if1 .came)) h)
 
 same-length-3 : tie.Need-same-length-3 Inv-loop μ-loop
 same-length-3 c = search needs
@@ -66,6 +80,10 @@ list-copies-spec =
     same-length
     same-length-2
     returns
+    mul-found-row
+    slice-read-found-row
+    found-row-requires
+    add-near
     sub-left
     loop-less
     loop-again

@@ -1,0 +1,121 @@
+//! The list program, beside the second program: the same text for the same input.
+
+mod root_folder;
+
+use kirovadzun_host::gen::files::{one_root_plan, plan, Item, Role, SMALL};
+use kirovadzun_host::gen::{damage, one_root, Rng};
+use kirovadzun_host::model::audit::{audit, part};
+use kirovadzun_host::model::number;
+use root_folder::root_files;
+use std::fs;
+use std::io::Write;
+use std::path::Path;
+use std::process::{Command, Stdio};
+
+const MOST_BYTES: usize = 49_152;
+const ROWS: usize = 1024;
+
+/// What the proved program prints. Its input is no longer than a pipe holds, or is all read.
+fn printed(file: &[u8]) -> String {
+    let program = Path::new(env!("CARGO_MANIFEST_DIR")).join("../target/bin/rootmap");
+    let mut child = Command::new(&program)
+        .stdin(Stdio::piped())
+        .stdout(Stdio::piped())
+        .spawn()
+        .unwrap_or_else(|error| panic!("{}: {error}; host/run-tests builds it", program.display()));
+    let mut input = child.stdin.take().unwrap();
+    // It may end before it has read all of too long an input.
+    let _ = input.write_all(file);
+    drop(input);
+    let output = child.wait_with_output().unwrap();
+    assert!(output.status.success());
+    String::from_utf8(output.stdout).unwrap()
+}
+
+/// What document 01 has for the same bytes, by the second program.
+fn expected(file: &[u8]) -> String {
+    if file.len() > MOST_BYTES {
+        return "input too long\n".into();
+    }
+    let (answer, rows) = audit(file, ROWS);
+    match answer.number {
+        0 => {
+            let ends = rows.iter().skip(1).map(|row| row.start as usize).chain([file.len()]);
+            let lines = rows.iter().zip(ends).map(|(row, end)| {
+                let name = part::NAMES[row.part as usize];
+                format!("{} {} {name} {}\n", row.start, end - row.start as usize, row.owner)
+            });
+            format!("passed {}\n{}", answer.count, lines.collect::<String>())
+        }
+        number::UNFINISHED => format!("unfinished {}\n", answer.count),
+        refusal => format!("refused {refusal} {}\n", answer.place),
+    }
+}
+
+fn compare(file: &[u8]) {
+    assert_eq!(printed(file), expected(file), "{} bytes", file.len());
+}
+
+/// one.root with gaps of four bytes at its end, so that it has this many pieces.
+fn gaps(pieces: usize) -> Vec<u8> {
+    let mut plan = one_root_plan();
+    let mut rng = Rng::new(1);
+    while plan.items.len() < pieces {
+        plan.add(Item::new(&mut rng, Role::Gap, "", ""));
+    }
+    plan.build().bytes
+}
+
+#[test]
+fn one_root_as_document_01_has_it() {
+    let text = "passed 5\n100 68 head 0\n168 50 listed 100\n218 79 keys 100\n297 12 gap 0\n309 55 free 0\n";
+    assert_eq!(printed(&one_root()), text);
+}
+
+#[test]
+fn one_root_damaged() {
+    let whole = one_root();
+    for at in 0..whole.len() {
+        let mut file = whole.clone();
+        file[at] ^= 1 << (at % 8);
+        compare(&file);
+    }
+    for end in (0..whole.len()).step_by(7) {
+        compare(&whole[..end]);
+    }
+}
+
+#[test]
+fn as_many_pieces_as_rows_and_one_more() {
+    let [full, over] = [ROWS, ROWS + 1].map(gaps);
+    assert!(printed(&full).starts_with("passed 1024\n"));
+    assert_eq!(printed(&over), "unfinished 1025\n");
+    compare(&full);
+}
+
+#[test]
+fn as_many_bytes_as_are_taken_and_one_more() {
+    for len in [MOST_BYTES - 1, MOST_BYTES, MOST_BYTES + 1, MOST_BYTES + 20_000] {
+        compare(&vec![0; len]);
+    }
+}
+
+#[test]
+fn random_files() {
+    let mut rng = Rng::new(0x11_57);
+    for round in 0..600 {
+        let mut file = plan(&mut rng, SMALL).build().bytes;
+        if round % 2 == 1 {
+            let at = rng.below(file.len());
+            damage(&mut rng, &mut file, at);
+        }
+        compare(&file);
+    }
+}
+
+#[test]
+fn files_written_by_root() {
+    for path in root_files().unwrap_or_default() {
+        compare(&fs::read(path).unwrap());
+    }
+}
