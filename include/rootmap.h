@@ -20,7 +20,7 @@
  *   11  a directory's header is bad
  *   12  a directory's keys list is bad
  *   13  a copy in a keys list is not that of a record of the directory
- *   14  a record has two parts: it is listed twice, or is listed and a list
+ *   14  a record that a directory has as its list, or lists, has a part already
  *   15  a string is longer than 254 bytes
  *   16  the key header would not be well formed, or a value does not fit its field
  *   17  SeekKey + Nbytes lies beyond the buffer

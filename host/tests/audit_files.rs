@@ -81,7 +81,7 @@ fn deep_files() {
 }
 
 /// One change: at any byte, near a header, or a number that says where something stands.
-fn hurt(rng: &mut Rng, plan: &Plan, built: &mut Built) {
+fn damage_plan(rng: &mut Rng, plan: &Plan, built: &mut Built) {
     let len = built.bytes.len();
     let site = &built.sites[rng.below(plan.items.len())];
     let other = &built.sites[rng.below(plan.items.len())];
@@ -119,7 +119,7 @@ fn damaged_files() {
         let mut built = plan.build();
         for _ in 0..1 + rng.below(3) {
             if built.bytes.len() > 60 {
-                hurt(&mut rng, &plan, &mut built);
+                damage_plan(&mut rng, &plan, &mut built);
             }
         }
         if rng.once_in(2) && built.bytes.len() >= 100 {

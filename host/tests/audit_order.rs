@@ -52,7 +52,7 @@ fn refused(tally: &mut Tally, built: &Built, number: u64, place: usize) {
 }
 
 /// Spoils SeekDir of a directory.
-fn spoil(built: &mut Built, dir: usize) {
+fn damage_header(built: &mut Built, dir: usize) {
     built.add32(built.sites[dir].directory + 18, 1);
 }
 
@@ -62,20 +62,20 @@ fn lowest_directory_found() {
     let good = file().build();
     assert_eq!(audit_by_rules(&mut tally, &good.bytes).0, Answer::success(9));
     // C is lower than A. B is the lowest of all, and found after C was done.
-    for (spoiled, first) in [(vec![A, B, C], C), (vec![A, B], A), (vec![B, C], C), (vec![B], B), (vec![A, C], C)] {
+    for (damaged, first) in [(vec![A, B, C], C), (vec![A, B], A), (vec![B, C], C), (vec![B], B), (vec![A, C], C)] {
         let mut built = good.clone();
-        for dir in spoiled {
-            spoil(&mut built, dir);
+        for dir in damaged {
+            damage_header(&mut built, dir);
         }
         refused(&mut tally, &built, 11, built.sites[first].start);
     }
     // With C behind A, B is found before C is taken.
     let mut plan = file();
     plan.order = vec![HEAD, B, A, X, Y, C, LIST, LIST_A, 8];
-    for (spoiled, first) in [(vec![A, B, C], A), (vec![B, C], B), (vec![C], C)] {
+    for (damaged, first) in [(vec![A, B, C], A), (vec![B, C], B), (vec![C], C)] {
         let mut built = plan.build();
-        for dir in spoiled {
-            spoil(&mut built, dir);
+        for dir in damaged {
+            damage_header(&mut built, dir);
         }
         refused(&mut tally, &built, 11, built.sites[first].start);
     }
@@ -87,8 +87,8 @@ fn lowest_directory_found() {
 fn header_when_taken() {
     let mut tally = Tally::new("audit, faults of a directory found and of the list that found it");
     let mut built = file().build();
-    spoil(&mut built, A);
-    spoil(&mut built, C);
+    damage_header(&mut built, A);
+    damage_header(&mut built, C);
     // The last copy of the head's list.
     let last = built.sites[LIST].copies[3];
     built.add32(last + 10, 1);
@@ -97,7 +97,7 @@ fn header_when_taken() {
     let mut plan = file();
     plan.items[LIST].data = vec![0];
     let mut built = plan.build();
-    spoil(&mut built, C);
+    damage_header(&mut built, C);
     refused(&mut tally, &built, 12, built.sites[LIST].start);
     tally.finish(2, &[12, 13]);
 }

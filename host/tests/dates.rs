@@ -6,7 +6,7 @@ use kirovadzun_host::gen::Rng;
 /// The least and the greatest value of each field.
 const RANGES: [(u32, u32); 6] = [(1995, 2058), (0, 15), (0, 31), (0, 31), (0, 63), (0, 63)];
 
-/// The limits of a field and their neighbors, and values that a narrower sum would wrap.
+/// The limits of a field and their neighbours, and values that a narrower sum would wrap.
 fn limits((least, greatest): (u32, u32)) -> Vec<u32> {
     let mut values = vec![least, least + 1, greatest - 1, greatest, greatest + 1, u32::MAX];
     if least > 0 {

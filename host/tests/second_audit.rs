@@ -1,5 +1,5 @@
 //! The second audit of a whole file against the rules, which are tried on every set of directories:
-//! a file passes exactly if one giving of parts and owners meets the rules, and its rows are that one.
+//! a file passes exactly if one assignment of parts and owners meets the rules, and its rows are that one.
 
 use kirovadzun_host::compare::Tally;
 use kirovadzun_host::gen::files::{plan, SMALL};
@@ -9,9 +9,9 @@ use kirovadzun_host::model::rules;
 
 fn agree(tally: &mut Tally, file: &[u8]) {
     let (answer, rows) = audit(file, pieces(file).unwrap_or(3));
-    let givings = rules::givings(file);
+    let assignments = rules::assignments(file);
     let expected = if answer.number == 0 { vec![rows] } else { Vec::new() };
-    assert!(givings == expected, "{answer:?} rules {givings:?}");
+    assert!(assignments == expected, "{answer:?} rules {assignments:?}");
     tally.add(answer.number);
 }
 

@@ -24,7 +24,7 @@ use Rattle.rules.specs.Row.{starts, rowOf}
 use Rattle.rules.specs.Turn.{Turn, going, stop, andThen, give, listedMark, onCopy, copyTurn, copies}
 use Rattle.rules.proofs.Items.{same?}
 use Rattle.rules.proofs.Rows.{start-there, no-start, row-of}
-use Rattle.audit.specs.Listing.{Ran, Quiet, Calm, Tables}
+use Rattle.audit.specs.Listing.{Ran, NoneBelow, NoOther, Tables}
 use Rattle.audit.specs.Row.{RowOf}
 use Rattle.audit.specs.declared.rows.Row.{Row}
 use Rattle.audit.specs.declared.rows.Row.the-variants.{At, Nothing}
@@ -54,22 +54,22 @@ fault-is (going ps os c) us vs n p h = absurd h
 fault-is (stop m q) us vs n p h = sym (λ i. stop (h .0 i) (h .1 i))
 
 -- a refusal tells no row
-pub quiet-fault : (ps us : List ℕ) (n p : ℕ) → Quiet ps us (Fault n p)
-unfolding Quiet
+pub quiet-fault : (ps us : List ℕ) (n p : ℕ) → NoneBelow ps us (Fault n p)
+unfolding NoneBelow
 quiet-fault ps us n p = tt
 
 abbrev pub Below : List ℕ → List ℕ → ℕ → Type 0
 Below ps us low = (i : ℕ) → i < low → 8 ≤ getD us i 0 → 8 ≤ getD ps i 0
 
-pub quiet-next : (ps us : List ℕ) (at low : ℕ) → Below ps us low → Quiet ps us (Next at low)
-unfolding Quiet
+pub quiet-next : (ps us : List ℕ) (at low : ℕ) → Below ps us low → NoneBelow ps us (Next at low)
+unfolding NoneBelow
 quiet-next ps us at low h = h
 
-pub from-quiet : (ps us : List ℕ) (at low : ℕ) → Quiet ps us (Next at low) → Below ps us low
-unfolding Quiet
+pub from-quiet : (ps us : List ℕ) (at low : ℕ) → NoneBelow ps us (Next at low) → Below ps us low
+unfolding NoneBelow
 from-quiet ps us at low h = h
 
-pub faulted : (ps us vs : List ℕ) (n p : ℕ) {x : Turn} → x ≡ stop n p → Ran x (Fault n p) us vs × Quiet ps us (Fault n p)
+pub faulted : (ps us vs : List ℕ) (n p : ℕ) {x : Turn} → x ≡ stop n p → Ran x (Fault n p) us vs × NoneBelow ps us (Fault n p)
 faulted ps us vs n p e = (ran-fault us vs n p e, quiet-fault ps us n p)
 
 -- tables of the same lengths
@@ -156,20 +156,20 @@ found-none m i n l = rw (lt-leb 8 m l)
 
 -- a row that is set: no other holds a directory that was found
 pub given : (ps os : List ℕ) (i m d c : ℕ) {x : Turn} → i < length ps → x ≡ going (set ps i m) (set os i d) c
-    → Ran x (Next c i) (set ps i m) (set os i d) × Calm ps (set ps i m) (Next c i)
-unfolding Calm
+    → Ran x (Next c i) (set ps i m) (set os i d) × NoOther ps (set ps i m) (Next c i)
+unfolding NoOther
 given ps os i m d c k e = (
   ran-next (set ps i m) (set os i d) c i e,
   (rw length-set k, λ j n h. rw (getD-set-other ps i j m 0 n) at h),
 )
 
-pub copy-stopped : (ps us vs : List ℕ) (n p : ℕ) {x : Turn} → x ≡ stop n p → Ran x (Fault n p) us vs × Calm ps us (Fault n p)
-unfolding Calm
+pub copy-stopped : (ps us vs : List ℕ) (n p : ℕ) {x : Turn} → x ≡ stop n p → Ran x (Fault n p) us vs × NoOther ps us (Fault n p)
+unfolding NoOther
 copy-stopped ps us vs n p e = (ran-fault us vs n p e, tt)
 
-pub told-row : (ps us : List ℕ) {r : Listed} {at row : ℕ} → r ≡ Next at row → Calm ps us r
+pub told-row : (ps us : List ℕ) {r : Listed} {at row : ℕ} → r ≡ Next at row → NoOther ps us r
     → (row < length us) × ((i : ℕ) → (i ≡ row → ⊥) → 8 ≤ getD us i 0 → 8 ≤ getD ps i 0)
-unfolding Calm
+unfolding NoOther
 told-row ps us e h = rw e at h
 
 -- while copies are listed: what is left decides
@@ -192,7 +192,7 @@ module _ {s qs : List ℕ} {d seek end count : ℕ} {ps os : List ℕ} {from lef
       w .run ∙ ap (λ (n : ℕ). copies s qs d seek end n us vs at) e
 
   pub copied : 0 < left → (r : Listed) (us′ vs′ : List ℕ) (low′ : ℕ) {next row : ℕ} → r ≡ Next next row
-      → Ran (copyTurn s qs d seek end us vs at) r us′ vs′ × Calm us us′ r → length us′ ≡ length us → length vs′ ≡ length vs
+      → Ran (copyTurn s qs d seek end us vs at) r us′ vs′ × NoOther us us′ r → length us′ ≡ length us → length vs′ ≡ length vs
       → low′ ≤ low → (8 ≤ getD us′ row 0 → low′ ≤ row) → Copying s qs d seek end count ps os from (left - 1) us′ vs′ next low′
   copied l r us′ vs′ low′ {next} {row} e h m n k o =
       let f = next-is (copyTurn s qs d seek end us vs at) us′ vs′ next row (rw e at (h .0)) in
@@ -208,12 +208,12 @@ module _ {s qs : List ℕ} {d seek end count : ℕ} {ps os : List ℕ} {from lef
       }
 
   pub cut-short : 0 < left → (r : Listed) (us′ vs′ : List ℕ) {n p : ℕ} → r ≡ Fault n p → Ran (copyTurn s qs d seek end us vs at) r us′ vs′
-      → Ran (copies s qs d seek end count ps os from) r us′ vs′ × Quiet ps us′ r
+      → Ran (copies s qs d seek end count ps os from) r us′ vs′ × NoneBelow ps us′ r
   cut-short l r us′ vs′ {n} {p} e h =
       let f = fault-is (copyTurn s qs d seek end us vs at) us′ vs′ n p (rw e at h) in
       rw e (faulted ps us′ vs′ n p (one-left l ∙ ap (andThen (copies s qs d seek end (left - 1))) f))
 
-  pub all-copied : left ≡ 0 → Ran (copies s qs d seek end count ps os from) (Next at low) us vs × Quiet ps us (Next at low)
+  pub all-copied : left ≡ 0 → Ran (copies s qs d seek end count ps os from) (Next at low) us vs × NoneBelow ps us (Next at low)
   unfolding copies
   all-copied e =
       (ran-next us vs at low (w .run ∙ ap (λ (n : ℕ). copies s qs d seek end n us vs at) e), quiet-next ps us at low (w .quiet))

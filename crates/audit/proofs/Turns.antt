@@ -24,7 +24,7 @@ use Rattle.rules.specs.Row.{starts, rowOf}
 use Rattle.rules.specs.Rules.{dirOf, noKeys}
 use Rattle.rules.specs.Turn.{Turn, going, stop, andThen, give, copies, ended, dataTurn, onData, keysIn, keysTurn, onDir, dirTurn, settle, roundTurn, nextRow, rounds}
 use Rattle.rules.proofs.Rows.{next-row-at, next-row-none, next-row, rounds-over, rounds-more}
-use Rattle.audit.specs.Listing.{Ran, Quiet, Done, DoneTo, Tables}
+use Rattle.audit.specs.Listing.{Ran, NoneBelow, Done, DoneTo, Tables}
 use Rattle.audit.specs.declared.keys.Listed.{Listed}
 use Rattle.audit.specs.declared.keys.Listed.the-variants.{Next, Fault}
 use Rattle.audit.proofs.Listings.{ran-next, ran-fault, next-is, fault-is, quiet-next, from-quiet, faulted, tables-kept, Below}
@@ -40,8 +40,8 @@ module _ (s qs : List ℕ) (d seek a end : ℕ) (ps os : List ℕ) (c : ℕ) whe
     unfolding dataTurn
     by-copies = rw (le-leb (a + 4) end l, e)
 
-    module _ (r : Listed) (us vs : List ℕ) (h : Ran (copies s qs d seek end n ps os c) r us vs × Quiet ps us r) where
-      pub data-fault : {m p : ℕ} → r ≡ Fault m p → Ran (dataTurn s qs d seek a end ps os c) r us vs × Quiet ps us r
+    module _ (r : Listed) (us vs : List ℕ) (h : Ran (copies s qs d seek end n ps os c) r us vs × NoneBelow ps us r) where
+      pub data-fault : {m p : ℕ} → r ≡ Fault m p → Ran (dataTurn s qs d seek a end ps os c) r us vs × NoneBelow ps us r
       data-fault {m} {p} f =
           let g = fault-is (copies s qs d seek end n ps os c) us vs m p (rw f at (h .0)) in
           rw f (faulted ps us vs m p (by-copies ∙ ap (andThen (ended seek end)) g))
@@ -50,10 +50,10 @@ module _ (s qs : List ℕ) (d seek a end : ℕ) (ps os : List ℕ) (c : ℕ) whe
         at-end : dataTurn s qs d seek a end ps os c ≡ ended seek end us vs at
         at-end = by-copies ∙ ap (andThen (ended seek end)) (next-is (copies s qs d seek end n ps os c) us vs at low (rw f at (h .0)))
 
-        pub data-left : (at ≡ end → ⊥) → Ran (dataTurn s qs d seek a end ps os c) (Fault 12 seek) us vs × Quiet ps us (Fault 12 seek)
+        pub data-left : (at ≡ end → ⊥) → Ran (dataTurn s qs d seek a end ps os c) (Fault 12 seek) us vs × NoneBelow ps us (Fault 12 seek)
         data-left z = faulted ps us vs 12 seek (at-end ∙ rw (ne-eqb at end z))
 
-        pub data-ended : at ≡ end → Ran (dataTurn s qs d seek a end ps os c) (Next at low) us vs × Quiet ps us (Next at low)
+        pub data-ended : at ≡ end → Ran (dataTurn s qs d seek a end ps os c) (Next at low) us vs × NoneBelow ps us (Next at low)
         data-ended z = (ran-next us vs at low (at-end ∙ rw (eq-eqb at end z)), rw f at (h .1))
 
 -- the keys list, from the row of its record
@@ -103,16 +103,16 @@ below-set ps us i low l b j k h = go (eqb j i) refl
     go true e = absurd (omega (arith, b j k h, getD-set-same ps i 4 0 l, ap (λ (n : ℕ). getD (set ps i 4) n 0) (eqb-true j i e)))
     go false e = rw (getD-set-other ps i j 4 0 (eqb-false j i e)) at (b j k h)
 
-quiet-set : (ps us : List ℕ) (i : ℕ) (r : Listed) → i < length ps → Quiet (set ps i 4) us r → Quiet ps us r
-unfolding Quiet
+quiet-set : (ps us : List ℕ) (i : ℕ) (r : Listed) → i < length ps → NoneBelow (set ps i 4) us r → NoneBelow ps us r
+unfolding NoneBelow
 quiet-set ps us i (Next at low) l h = below-set ps us i low l h
 quiet-set ps us i (Fault n p) l h = tt
 
-pub keys-ran : (ps us vs : List ℕ) (i : ℕ) (r : Listed) {x y : Turn} → i < length ps → x ≡ y → Ran y r us vs × Quiet (set ps i 4) us r
-    → Ran x r us vs × Quiet ps us r
+pub keys-ran : (ps us vs : List ℕ) (i : ℕ) (r : Listed) {x y : Turn} → i < length ps → x ≡ y → Ran y r us vs × NoneBelow (set ps i 4) us r
+    → Ran x r us vs × NoneBelow ps us r
 keys-ran ps us vs i r l e h = (rw e (h .0), quiet-set ps us i r l (h .1))
 
-pub nothing-new : (ps os : List ℕ) (c low : ℕ) {x : Turn} → x ≡ going ps os c → Ran x (Next c low) ps os × Quiet ps ps (Next c low)
+pub nothing-new : (ps os : List ℕ) (c low : ℕ) {x : Turn} → x ≡ going ps os c → Ran x (Next c low) ps os × NoneBelow ps ps (Next c low)
 nothing-new ps os c low e = (ran-next ps os c low e, quiet-next ps ps c low (λ i l h. h))
 
 -- the header of the directory at a place
@@ -132,7 +132,7 @@ module _ (s : List ℕ) (h : FileHead) (qs : List ℕ) (row : ℕ) (ps os : List
   dir-bad e f = ap (onDir s qs (getD qs row 0) ps os) (sym f) ∙ ap (stop 11) (sym e)
 
   pub dir-held : {dh : DirHead} (r : Listed) (us vs : List ℕ) → dir.Held dh ≡ dirOf s h (getD qs row 0) (getD os row 0)
-      → Ran (keysTurn s qs (getD qs row 0) dh ps os) r us vs × Quiet ps us r → Ran (dirTurn s h qs row ps os) r us vs × Quiet ps us r
+      → Ran (keysTurn s qs (getD qs row 0) dh ps os) r us vs × NoneBelow ps us r → Ran (dirTurn s h qs row ps os) r us vs × NoneBelow ps us r
   unfolding dirTurn
   dir-held r us vs f g = (rw (ap (onDir s qs (getD qs row 0) ps os) (sym f)) (g .0), g .1)
 
@@ -149,7 +149,7 @@ none-left ps i d l = let e : i ≡ length ps = omega (arith, d .0) in e ∙ sym 
 
 -- a directory that is done
 module _ (s : List ℕ) (h : FileHead) (qs : List ℕ) (row : ℕ) (ps os : List ℕ) (r : Listed) (us vs : List ℕ)
-    (g : Ran (dirTurn s h qs row ps os) r us vs × Quiet ps us r) where
+    (g : Ran (dirTurn s h qs row ps os) r us vs × NoneBelow ps us r) where
   pub round-fault : {n p : ℕ} → r ≡ Fault n p → Ran (roundTurn s h qs row ps os) r us vs × DoneTo us r
   unfolding DoneTo roundTurn
   round-fault {n} {p} e =

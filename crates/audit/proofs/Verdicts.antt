@@ -17,7 +17,8 @@ use Rattle.key.specs.declared.piece.Piece.the-variants as piece
 use Rattle.layout.specs.File.{openedAs}
 use Rattle.layout.specs.declared.file.FileHead.{FileHead}
 use Rattle.layout.specs.declared.file.Opened.the-variants as opened
-use Rattle.rules.specs.Order.{Chain, whole, chain, ruled, Verdict, passed, refused, onTurn, onChain, onOpened, lesser, verdict, numberOf, startsOf, partsOf, ownersOf, tableOf}
+use Rattle.wire.specs.Number.{lesser}
+use Rattle.rules.specs.Order.{Chain, whole, chain, ruled, Verdict, passed, refused, onTurn, onChain, onOpened, verdict, numberOf, startsOf, partsOf, ownersOf, tableOf}
 use Rattle.rules.specs.Partition.{Partition}
 use Rattle.rules.specs.Turn.{Turn, going, stop}
 use Rattle.rules.proofs.Partitions.{rises}
@@ -54,9 +55,9 @@ module _ (s : List ℕ) (room : ℕ) where
         → verdict s room ≡ refused c p 0
     verdict-fault {c} {p} qs h l e = by-chain (chain-fault s 100 qs p (length s) c h l e long)
 
-    module _ (qs : List ℕ) (cut : Partition s 100 (length s) qs) where
+    module _ (qs : List ℕ) (entire : Partition s 100 (length s) qs) where
       by-room : verdict s room ≡ pick (leb (length qs) room) (onTurn qs (ruled s h qs)) (refused 7 0 (length qs))
-      by-room = by-chain (chain-whole s 100 qs (length s) cut long)
+      by-room = by-chain (chain-whole s 100 qs (length s) entire long)
 
       verdict-seven : room < length qs → verdict s room ≡ refused 7 0 (length qs)
       verdict-seven l = by-room ∙ rw (lt-leb (length qs) room l)
@@ -136,60 +137,60 @@ fits t v w {n} {a} e l =
     record { room = omega (arith, e); starts = omega (arith, e, f); parts = omega (arith, e, f, g); owners = omega (arith, e, f, g) }
 
 -- a whole chain: its starts, and the table with them
-pub record Cut (s : List ℕ) (h : FileHead) (t u : List ℕ) (n : ℕ) : Type 0 where
+pub record Entire (s : List ℕ) (h : FileHead) (t u : List ℕ) (n : ℕ) : Type 0 where
   pub starts : List ℕ
   pub good : openedAs s ≡ opened.Good h
   pub partition : Partition s 100 (length s) starts
   pub count : n ≡ length starts
   pub table : u ≡ over starts t
 
-pub cut : (s t u : List ℕ) {h : FileHead} {n : ℕ} {r : Outcome} → opened.Good h ≡ openedAs s → r ≡ outcome.Whole n → Walked s t u r
-    → Cut s h t u n
-cut s t u o e k =
+pub entire : (s t u : List ℕ) {h : FileHead} {n : ℕ} {r : Outcome} → opened.Good h ≡ openedAs s → r ≡ outcome.Whole n → Walked s t u r
+    → Entire s h t u n
+entire s t u o e k =
     let f = subst (Walked s t u) e k in
     record { starts = f .0; good = sym o; partition = f .1; count = f .2; table = f .3 }
 
-module _ {s : List ℕ} {h : FileHead} {t u : List ℕ} {n : ℕ} (k : Cut s h t u n) where
-  pub cut-kept : length u ≡ length t
-  cut-kept = ap length (k .table) ∙ length-over (k .starts) t
+module _ {s : List ℕ} {h : FileHead} {t u : List ℕ} {n : ℕ} (k : Entire s h t u n) where
+  pub entire-kept : length u ≡ length t
+  entire-kept = ap length (k .table) ∙ length-over (k .starts) t
 
   -- the room, as it was computed
   module _ (v w : List ℕ) {a b : ℕ} (e : a ≡ lesser (length u) b) (f : b ≡ lesser (length v) (length w)) where
-    pub cut-fits : n ≤ a → Fits n t v w
-    cut-fits l = fits t v w (room-is t u v w cut-kept e f) l
+    pub entire-fits : n ≤ a → Fits n t v w
+    entire-fits l = fits t v w (room-is t u v w entire-kept e f) l
 
-    pub cut-seven : (x y : List ℕ) → a < n
+    pub entire-seven : (x y : List ℕ) → a < n
         → Examined (verdict s (roomOf t v w)) (record { number = 7; place = 0; count = n }) u x y
-    cut-seven x y l =
-        let m : roomOf t v w < length (k .starts) = rw (sym (room-is t u v w cut-kept e f), sym (k .count)) l in
+    entire-seven x y l =
+        let m : roomOf t v w < length (k .starts) = rw (sym (room-is t u v w entire-kept e f), sym (k .count)) l in
         told-refusal u x y (verdict-seven s (roomOf t v w) (k .good) (k .starts) (k .partition) m ∙ rw (k .count)) (λ z. absurd (omega arith))
 
   module _ {v w : List ℕ} (fit : Fits n t v w) where
-    cut-starts : take n u ≡ k .starts
-    cut-starts = rw (k .table, roomy (k .starts) t (omega (arith, k .count, fit .starts))) (take-at (k .starts) _ n (sym (k .count)))
+    entire-starts : take n u ≡ k .starts
+    entire-starts = rw (k .table, roomy (k .starts) t (omega (arith, k .count, fit .starts))) (take-at (k .starts) _ n (sym (k .count)))
 
-    pub cut-tables : Tables (take n u) (take n v) (take n w)
-    cut-tables = record {
-      rising = rw cut-starts (rises s 100 (k .starts) (length s) (k .partition));
-      parts = rw (cut-starts, length-take-le n v (fit .parts)) (k .count);
-      owners = rw (cut-starts, length-take-le n w (fit .owners)) (k .count);
+    pub entire-tables : Tables (take n u) (take n v) (take n w)
+    entire-tables = record {
+      rising = rw entire-starts (rises s 100 (k .starts) (length s) (k .partition));
+      parts = rw (entire-starts, length-take-le n v (fit .parts)) (k .count);
+      owners = rw (entire-starts, length-take-le n w (fit .owners)) (k .count);
     }
 
     turned : {r : Turn} → ruled s h (take n u) ≡ r → verdict s (roomOf t v w) ≡ onTurn (k .starts) r
-    turned e = verdict-turn s (roomOf t v w) (k .good) (k .starts) (k .partition) (rw (sym (k .count)) (fit .room)) ((rw cut-starts at e))
+    turned e = verdict-turn s (roomOf t v w) (k .good) (k .starts) (k .partition) (rw (sym (k .count)) (fit .room)) ((rw entire-starts at e))
 
-    pub cut-stops : {c q : ℕ} {r : Listed} {a : Answer} (ps os x y : List ℕ) → r ≡ Fault c q → Ran (ruled s h (take n u)) r ps os
+    pub entire-stops : {c q : ℕ} {r : Listed} {a : Answer} (ps os x y : List ℕ) → r ≡ Fault c q → Ran (ruled s h (take n u)) r ps os
         → a ≡ refusal c q → Examined (verdict s (roomOf t v w)) a u x y
-    cut-stops ps os x y e r g = told-fault u x y (turned (ran-fault (ruled s h (take n u)) ps os e r)) g
+    entire-stops ps os x y e r g = told-fault u x y (turned (ran-fault (ruled s h (take n u)) ps os e r)) g
 
-    pub cut-passes : {a b : ℕ} {r : Listed} (ps os x y : List ℕ) → length ps ≡ length (take n v) → length os ≡ length (take n w)
+    pub entire-passes : {a b : ℕ} {r : Listed} (ps os x y : List ℕ) → length ps ≡ length (take n v) → length os ≡ length (take n w)
         → r ≡ Next a b → Ran (ruled s h (take n u)) r ps os
         → Examined (verdict s (roomOf t v w)) (record { number = 0; place = 0; count = n }) u (ps ++ x) (os ++ y)
-    cut-passes ps os x y a b e r =
+    entire-passes ps os x y a b e r =
         told-pass u (ps ++ x) (os ++ y)
         (turned (ran-next (ruled s h (take n u)) ps os e r))
         (k .count)
-        (ap (λ (m : ℕ). take m u) (sym (k .count)) ∙ cut-starts)
+        (ap (λ (m : ℕ). take m u) (sym (k .count)) ∙ entire-starts)
         (take-at ps x (length ps) refl)
         (take-at os y (length os) refl)
         (a ∙ length-take-le n v (fit .parts) ∙ k .count)

@@ -16,9 +16,9 @@ Ran (stop n p) (Next at low) us vs = ⊥
 Ran (stop n p) (Fault m q) us vs = (m ≡ n) × (q ≡ p)
 
 -- below the row that is told, no directory was found
-unfoldable pub Quiet : List ℕ → List ℕ → Listed → Type 0
-Quiet ps us (Next at low) = (i : ℕ) → i < low → 8 ≤ getD us i 0 → 8 ≤ getD ps i 0
-Quiet ps us (Fault n p) = Unit
+unfoldable pub NoneBelow : List ℕ → List ℕ → Listed → Type 0
+NoneBelow ps us (Next at low) = (i : ℕ) → i < low → 8 ≤ getD us i 0 → 8 ≤ getD ps i 0
+NoneBelow ps us (Fault n p) = Unit
 
 -- no directory before a row is found and not done
 abbrev pub Done : List ℕ → ℕ → Type 0
@@ -30,9 +30,9 @@ DoneTo us (Next at low) = Done us low
 DoneTo us (Fault n p) = Unit
 
 -- no row but the one that is told holds a directory that was found
-unfoldable pub Calm : List ℕ → List ℕ → Listed → Type 0
-Calm ps us (Next at row) = (row < length us) × ((i : ℕ) → (i ≡ row → ⊥) → 8 ≤ getD us i 0 → 8 ≤ getD ps i 0)
-Calm ps us (Fault n p) = Unit
+unfoldable pub NoOther : List ℕ → List ℕ → Listed → Type 0
+NoOther ps us (Next at row) = (row < length us) × ((i : ℕ) → (i ≡ row → ⊥) → 8 ≤ getD us i 0 → 8 ≤ getD ps i 0)
+NoOther ps us (Fault n p) = Unit
 
 -- three tables of one length, the starts rising
 pub record Tables (start part owner : List ℕ) : Type 0 where

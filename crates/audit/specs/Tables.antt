@@ -5,9 +5,10 @@ use mathlib.Core.Path.{_≡_}
 use lib.ListN.{length, take}
 use Rattle.wire.specs.declared.Answer.{Answer}
 use Rattle.rules.specs.Demand.{Demand}
-use Rattle.rules.specs.Order.{Verdict, lesser, verdict, numberOf, placeOf, countOf, startsOf, partsOf, ownersOf, tableOf}
+use Rattle.wire.specs.Number.{lesser}
+use Rattle.rules.specs.Order.{Verdict, verdict, numberOf, placeOf, countOf, startsOf, partsOf, ownersOf, tableOf}
 
--- room is the shortest
+-- document 01, "Numbers given back": room is the shortest
 abbrev pub roomOf : List ℕ → List ℕ → List ℕ → ℕ
 roomOf start part owner = lesser (length start) (lesser (length part) (length owner))
 

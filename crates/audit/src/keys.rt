@@ -7,7 +7,7 @@ ghost use Rattle.wire.specs.Check.{pick};
 ghost use Rattle.wire.specs.Name.{tDirectory};
 ghost use Rattle.layout.specs.Name.{named};
 ghost use Rattle.rules.specs.Turn.{copyTurn, copies, dataTurn, keysTurn};
-ghost use Rattle.audit.specs.Listing.{Ran, Quiet, Calm, Tables};
+ghost use Rattle.audit.specs.Listing.{Ran, NoneBelow, NoOther, Tables};
 use crate::rows::Row;
 use crate::rows::find_row;
 use crate::rows::long;
@@ -63,7 +63,7 @@ fn one_copy(
     near: usize,
 ) -> Listed
     requires { ⌜ Tables (now start) (now part) (now owner) ⌝ }
-    ensures { λ r. ⌜ Ran (copyTurn (now (file .entry)) (now (start .entry)) dir seek end (now (part .entry)) (now (owner .entry)) at) r (now (part .exit)) (now (owner .exit)) × Calm (now (part .entry)) (now (part .exit)) r ⌝ }
+    ensures { λ r. ⌜ Ran (copyTurn (now (file .entry)) (now (start .entry)) dir seek end (now (part .entry)) (now (owner .entry)) at) r (now (part .exit)) (now (owner .exit)) × NoOther (now (part .entry)) (now (part .exit)) r ⌝ }
 {
     let Header::Good(k) = read_copy(file, at, end) else {
         return Listed::Fault(12, seek as usize);
@@ -103,7 +103,7 @@ fn list_copies(
     count: u32,
 ) -> Listed
     requires { ⌜ Tables (now start) (now part) (now owner) ⌝ }
-    ensures { λ r. ⌜ Ran (copies (now (file .entry)) (now (start .entry)) dir seek end count (now (part .entry)) (now (owner .entry)) from) r (now (part .exit)) (now (owner .exit)) × Quiet (now (part .entry)) (now (part .exit)) r ⌝ }
+    ensures { λ r. ⌜ Ran (copies (now (file .entry)) (now (start .entry)) dir seek end count (now (part .entry)) (now (owner .entry)) from) r (now (part .exit)) (now (owner .exit)) × NoneBelow (now (part .entry)) (now (part .exit)) r ⌝ }
 {
     let mut at = from;
     let mut left = count;
@@ -137,7 +137,7 @@ fn list_data(
     end: usize,
 ) -> Listed
     requires { ⌜ Tables (now start) (now part) (now owner) × (from ≤ end) × (end ≤ length (now file)) ⌝ }
-    ensures { λ r. ⌜ Ran (dataTurn (now (file .entry)) (now (start .entry)) dir seek from end (now (part .entry)) (now (owner .entry)) (from + 4)) r (now (part .exit)) (now (owner .exit)) × Quiet (now (part .entry)) (now (part .exit)) r ⌝ }
+    ensures { λ r. ⌜ Ran (dataTurn (now (file .entry)) (now (start .entry)) dir seek from end (now (part .entry)) (now (owner .entry)) (from + 4)) r (now (part .exit)) (now (owner .exit)) × NoneBelow (now (part .entry)) (now (part .exit)) r ⌝ }
 {
     if end - from < 4 {
         return Listed::Fault(12, seek as usize);
@@ -163,7 +163,7 @@ pub(crate) fn list_keys(
     head: DirHead,
 ) -> Listed
     requires { ⌜ Tables (now start) (now part) (now owner) ⌝ }
-    ensures { λ r. ⌜ Ran (keysTurn (now (file .entry)) (now (start .entry)) dir head (now (part .entry)) (now (owner .entry))) r (now (part .exit)) (now (owner .exit)) × Quiet (now (part .entry)) (now (part .exit)) r ⌝ }
+    ensures { λ r. ⌜ Ran (keysTurn (now (file .entry)) (now (start .entry)) dir head (now (part .entry)) (now (owner .entry))) r (now (part .exit)) (now (owner .exit)) × NoneBelow (now (part .entry)) (now (part .exit)) r ⌝ }
 {
     let seek = head.seekkeys;
     let nbytes = head.nbyteskeys;

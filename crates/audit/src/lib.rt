@@ -1,7 +1,7 @@
 // The audit of a whole file.
 ghost use mathlib.Core.Path.{_≡_};
 ghost use Rattle.wire.specs.Answer.{refusal};
-ghost use Rattle.rules.specs.Order.{verdict, lesser};
+ghost use Rattle.rules.specs.Order.{verdict};
 ghost use Rattle.audit.specs.Tables.{Answers, Filled, Audited, roomOf};
 use chain::Outcome;
 use chain::walk;
@@ -11,6 +11,7 @@ use layout::file::open;
 use survey::clear;
 use survey::survey;
 use wire::Answer;
+use wire::number::least;
 
 mod chain;
 mod keys;
@@ -18,15 +19,6 @@ mod lists;
 mod rounds;
 mod rows;
 mod survey;
-
-fn least(a: usize, b: usize) -> usize
-    ensures { λ r. ⌜ r ≡ lesser a b ⌝ }
-{
-    if a <= b {
-        return a;
-    }
-    b
-}
 
 fn refuse(number: u32, place: usize) -> Answer
     ensures { λ r. ⌜ r ≡ refusal number place ⌝ }

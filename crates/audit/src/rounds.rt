@@ -4,7 +4,7 @@ ghost use Prim.Native.Nat.{_≤_, _<_};
 ghost use lib.ListN.{length, getD};
 ghost use Rattle.rules.specs.Rules.{dirOf};
 ghost use Rattle.rules.specs.Turn.{dirTurn, roundTurn, nextRow, rounds};
-ghost use Rattle.audit.specs.Listing.{Ran, Quiet, Done, DoneTo, Tables};
+ghost use Rattle.audit.specs.Listing.{Ran, NoneBelow, Done, DoneTo, Tables};
 use crate::keys::Listed;
 use crate::keys::list_keys;
 use crate::rows::long;
@@ -33,7 +33,7 @@ fn list_dir(
     row: usize,
 ) -> Listed
     requires { ⌜ Tables (now start) (now part) (now owner) × (row < length (now start)) ⌝ }
-    ensures { λ r. ⌜ Ran (dirTurn (now (file .entry)) head (now (start .entry)) row (now (part .entry)) (now (owner .entry))) r (now (part .exit)) (now (owner .exit)) × Quiet (now (part .entry)) (now (part .exit)) r ⌝ }
+    ensures { λ r. ⌜ Ran (dirTurn (now (file .entry)) head (now (start .entry)) row (now (part .entry)) (now (owner .entry))) r (now (part .exit)) (now (owner .exit)) × NoneBelow (now (part .entry)) (now (part .exit)) r ⌝ }
 {
     let dir = start[row];
     let Dir::Held(d) = read_dir(file, head, dir, owner[row]) else {

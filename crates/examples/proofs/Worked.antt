@@ -15,6 +15,7 @@ use Rattle.key.specs.Piece.{sizeAt, recordThere, pieceAt, pieceAnswer}
 use Rattle.layout.specs.File.{openedAs}
 use Rattle.layout.specs.Keys.{copyIn}
 use Rattle.rules.specs.Order.{verdict, numberOf}
+use Rattle.rules.specs.Row.{starts}
 use Rattle.rules.specs.Turn.{Turn, going, stop, copyTurn}
 use Rattle.streamer.specs.Field.{andThen, fieldAt, numbersAt, endOf, countAt, counted, endedAt, textFieldAt, unnamedAt, zeroAt, objectAt}
 use Rattle.streamer.specs.Tag.{firstIn, classIn, classOf, newTag, oldTag, tagAt, headAt, headed}
@@ -82,10 +83,10 @@ cases =
     ∷ eq (pieceAnswer (0 ∷ 0 ∷ 0 ∷ 0 ∷ []) 0 .number) 5 ∷ eq (pieceAnswer (128 ∷ 0 ∷ 0 ∷ 0 ∷ []) 0 .number) 5
     -- 99 bytes is 1; zero bytes is 1
     ∷ eq (numberOf (verdict (replicate 99 0) 5)) 1 ∷ eq (numberOf (verdict [] 5)) 1
-    -- a copy with KeyLen one above its sum is 12
-    ∷ eq (numberIn (copyTurn longCopy [] 100 218 42 [] [] 0)) 12
+    -- a copy with KeyLen one above its sum is 12; a plain one is read, and is 13 where no piece starts at its SeekKey
+    ∷ eq (numberIn (copyTurn longCopy [] 100 218 41 [] [] 0)) 12 ∷ eq (numberIn (copyTurn objectKey [] 100 218 40 [] [] 0)) 13
     ∷ []
 
 pub examples : all cases ≡ true
-unfolding beValue numAt signedOf textAt textIn contentOf keyAt namesAt headerIn sizeAt recordThere pieceAt pieceAnswer packed packAnswer openedAs copyIn verdict copyTurn andThen fieldAt numbersAt endOf countAt counted endedAt textFieldAt unnamedAt zeroAt objectAt eqBytes firstIn classIn classOf newTag oldTag tagAt headAt headed flat times ends namedAt withName baseAt withFields counterAt ownAt memberAt elementAt collectionAt sized arrayBody arrayAt classBody classAt wholeAt listAt recordAt infoAt infoAnswer infoTable
+unfolding beValue numAt signedOf textAt textIn contentOf keyAt namesAt headerIn sizeAt recordThere pieceAt pieceAnswer packed packAnswer openedAs copyIn verdict copyTurn starts andThen fieldAt numbersAt endOf countAt counted endedAt textFieldAt unnamedAt zeroAt objectAt eqBytes firstIn classIn classOf newTag oldTag tagAt headAt headed flat times ends namedAt withName baseAt withFields counterAt ownAt memberAt elementAt collectionAt sized arrayBody arrayAt classBody classAt wholeAt listAt recordAt infoAt infoAnswer infoTable
 examples = refl

@@ -4,7 +4,7 @@ use mathlib.Core.List.{List, [], _∷_}
 use mathlib.Core.Path.{_≡_, refl}
 use Rattle.wire.specs.Answer.{done, refusal}
 use Rattle.wire.specs.Patch.{patch}
-use Rattle.report.specs.Report.{digitsIn, decimal, spaced, closed, partName, line, nextPlace, row, lines, heading, lesser, rowsOf, reportOf, putAnswer, putBuffer}
+use Rattle.report.specs.Report.{digitsIn, decimal, spaced, closed, partName, line, nextPlace, row, lines, heading, rowsOf, reportOf, putAnswer, putBuffer}
 
 -- the audit of one.root, with tables of six rows
 abbrev starts : List ℕ
@@ -39,5 +39,5 @@ examples : (reportOf (done 5) starts parts owners 364 ≡ printed)
     × (putBuffer printed (1 ∷ 2 ∷ []) ≡ 1 ∷ 2 ∷ [])
     × (putAnswer (49 ∷ []) (1 ∷ 2 ∷ []) ≡ done 1)
     × (putBuffer (49 ∷ []) (1 ∷ 2 ∷ []) ≡ 49 ∷ 2 ∷ [])
-unfolding digitsIn decimal spaced closed partName line nextPlace row lines heading lesser rowsOf reportOf putAnswer putBuffer patch
+unfolding digitsIn decimal spaced closed partName line nextPlace row lines heading rowsOf reportOf putAnswer putBuffer patch
 examples = (refl, refl, refl, refl, refl, refl, refl, refl, refl, refl, refl, refl)

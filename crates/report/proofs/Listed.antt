@@ -14,16 +14,15 @@ use Rattle.wire.specs.Check.{pick}
 use Rattle.wire.specs.declared.Answer.{Answer}
 use Rattle.wire.proofs.Checks.{below-or}
 use Rattle.report.specs.Put.{Room, Put}
-use Rattle.report.specs.Report.{nextPlace, line, row, lines, lesser, rowsOf}
+use Rattle.wire.specs.Number.{lesser}
+use Rattle.report.specs.Report.{nextPlace, line, row, lines, rowsOf}
 use Rattle.report.proofs.Puts.{put-nothing, put-then, put-as}
 use Rattle.report.proofs.Words.{line-short}
 
-pub left-lesser : (a b : ℕ) → a ≤ b → a ≡ lesser a b
-unfolding lesser
+left-lesser : (a b : ℕ) → a ≤ b → a ≡ lesser a b
 left-lesser a b l = rw (le-leb a b l)
 
-pub right-lesser : (a b : ℕ) → b < a → b ≡ lesser a b
-unfolding lesser
+right-lesser : (a b : ℕ) → b < a → b ≡ lesser a b
 right-lesser a b l = rw (lt-leb a b l)
 
 lesser-within : (a b : ℕ) → (lesser a b ≤ a) × (lesser a b ≤ b)

@@ -5,6 +5,7 @@ use lib.ListN.{length, getD}
 use lib.Dec.{leb, ltb, eqb}
 use Rattle.wire.specs.Answer.{done, refusal}
 use Rattle.wire.specs.Check.{pick}
+use Rattle.wire.specs.Number.{lesser}
 use Rattle.wire.specs.Patch.{patch}
 use Rattle.wire.specs.declared.Answer.{Answer}
 
@@ -77,9 +78,6 @@ heading a =
     (spaced refused ++ spaced (decimal (a .number)) ++ closed (decimal (a .place))))
 
 -- the rows that are listed: on a pass as many as were counted, at most as many as every table has; else none
-unfoldable pub lesser : ℕ → ℕ → ℕ
-lesser a b = pick (leb a b) a b
-
 unfoldable pub rowsOf : Answer → List ℕ → List ℕ → List ℕ → ℕ
 rowsOf a start part owner =
     pick (eqb (a .number) 0) (lesser (a .count) (lesser (length start) (lesser (length part) (length owner)))) 0

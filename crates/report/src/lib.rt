@@ -2,25 +2,17 @@
 ghost use mathlib.Core.Path.{_≡_};
 ghost use lib.ListN.{length};
 ghost use Rattle.wire.specs.Answer.{refusal};
-ghost use Rattle.report.specs.Report.{heading, lesser, rowsOf, reportOf, putAnswer, putBuffer};
+ghost use Rattle.report.specs.Report.{heading, rowsOf, reportOf, putAnswer, putBuffer};
 use field::put_text;
 use line::put_heading;
 use rows::lines_fit;
 use rows::put_lines;
 use wire::Answer;
+use wire::number::least;
 
 mod field;
 mod line;
 mod rows;
-
-fn least(a: usize, b: usize) -> usize
-    ensures { λ r. ⌜ r ≡ lesser a b ⌝ }
-{
-    if a <= b {
-        return a;
-    }
-    b
-}
 
 // How many rows are listed.
 fn count_rows(a: Answer, start: &[u32], part: &[u32], owner: &[u32]) -> usize

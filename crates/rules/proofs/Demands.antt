@@ -16,7 +16,7 @@ use Rattle.layout.specs.declared.dirs.Dir.the-variants as dir
 use Rattle.layout.specs.declared.file.FileHead.{FileHead}
 use Rattle.layout.specs.declared.file.Opened.{Opened}
 use Rattle.layout.specs.declared.file.Opened.the-variants as opened
-use Rattle.rules.specs.Demand.{Cut, Passes, Unfinished, Demand}
+use Rattle.rules.specs.Demand.{Partitioned, Passes, Unfinished, Demand}
 use Rattle.rules.specs.Free.{freeHolds, infoHolds}
 use Rattle.rules.specs.Order.{Chain, whole, fault, chain, onHead, ruled, passed, refused, verdict, numberOf}
 use Rattle.rules.specs.Partition.{Partition}
@@ -62,13 +62,13 @@ module _ (s : List ℕ) (h : FileHead) (qs : List ℕ) (p : Partition s 100 (len
 pub data View (s : List ℕ) (room : ℕ) : Type 0 where
   header : (c : ℕ) → openedAs s ≡ opened.Refused c → verdict s room ≡ refused c 0 0 → View s room
   faulty : (h : FileHead) (c p : ℕ) → openedAs s ≡ opened.Good h → chain s (length s) 100 ≡ fault c p → verdict s room ≡ refused c p 0 → View s room
-  longer : (h : FileHead) (qs : List ℕ) → Cut s h qs → room < length qs → verdict s room ≡ refused 7 0 (length qs) → View s room
+  longer : (h : FileHead) (qs : List ℕ) → Partitioned s h qs → room < length qs → verdict s room ≡ refused 7 0 (length qs) → View s room
   stops : (h : FileHead) (qs : List ℕ) (c p : ℕ) → ruled s h qs ≡ stop c p → verdict s room ≡ refused c p 0 → View s room
-  goes : (h : FileHead) (qs ps os : List ℕ) (c : ℕ) → Cut s h qs → length qs ≤ room → ruled s h qs ≡ going ps os c
+  goes : (h : FileHead) (qs ps os : List ℕ) (c : ℕ) → Partitioned s h qs → length qs ≤ room → ruled s h qs ≡ going ps os c
       → verdict s room ≡ passed qs ps os → View s room
 
 module _ (s : List ℕ) (room : ℕ) where
-  cut-of : (h : FileHead) (qs : List ℕ) → openedAs s ≡ opened.Good h → chain s (length s) 100 ≡ whole qs → Cut s h qs
+  cut-of : (h : FileHead) (qs : List ℕ) → openedAs s ≡ opened.Good h → chain s (length s) 100 ≡ whole qs → Partitioned s h qs
   cut-of h qs e f = (e, whole-partition s (length s) 100 qs f (opened-long s e .0))
 
   view-turn : (h : FileHead) (qs : List ℕ) (t : Turn) → openedAs s ≡ opened.Good h → chain s (length s) 100 ≡ whole qs → length qs ≤ room
@@ -125,7 +125,7 @@ module _ (s : List ℕ) (room : ℕ) where
   seven-by (stops h qs c p e f) z = absurd (omega (arith, is-number f, late-number h qs c p e))
   seven-by (goes h qs ps os c k l e f) z = let x = ap numberOf f in absurd (omega arith)
 
-  chain-is : (h : FileHead) (qs : List ℕ) → Cut s h qs → chain s (length s) 100 ≡ whole qs
+  chain-is : (h : FileHead) (qs : List ℕ) → Partitioned s h qs → chain s (length s) 100 ≡ whole qs
   chain-is h qs c = chain-whole s 100 qs (length s) (c .1) (omega arith)
 
   pub passes : (qs ps os : List ℕ) → Passes s room qs ps os → verdict s room ≡ passed qs ps os
@@ -157,7 +157,7 @@ module _ (s : List ℕ) (room : ℕ) where
           go false g = absurd (n g)
 
 -- no second assignment
-one-assignment : (s : List ℕ) (h : FileHead) (qs ps os us vs : List ℕ) → Cut s h qs → Rules s h qs ps os → Rules s h qs us vs
+one-assignment : (s : List ℕ) (h : FileHead) (qs ps os us vs : List ℕ) → Partitioned s h qs → Rules s h qs ps os → Rules s h qs us vs
     → (ps ≡ us) × (os ≡ vs)
 one-assignment s h qs ps os us vs c r w =
     let a = passes s (length qs) qs ps os (record { header = h; partition = c; fits = omega arith; rules = r }) in

@@ -32,21 +32,21 @@ module _ (s : List ℕ) (h : FileHead) (qs : List ℕ) (p : Partition s 100 (len
   set-early : (i k b : ℕ) → i < length qs → getD gs i 0 ≡ k → k ≤ 3 → firstPart s h (getD qs i 0) ≡ b → final b ≡ k → FixedAt i
   set-early i k b l e z f g = (
     final-low (getD gs i 0) (omega arith) ∙ e ∙ sym (ap final f ∙ g),
-    (omega arith, r .alone i l (inl (omega arith))),
+    (omega arith, r .noOwner i l (inl (omega arith))),
   )
 
   fixed-at : (i : ℕ) → i < length qs → (firstPart s h (getD qs i 0) ≡ 7 → ⊥) → Place s h (getD qs i 0) → FixedAt i
-  fixed-at i l n (head a b) = set-early i 1 9 l (r .first i l .1 a) (omega arith) b (final-high 9 (omega arith))
-  fixed-at i l n (free z a b) = set-early i 2 2 l (r .second i l .1 a) (omega arith) b (final-low 2 (omega arith))
-  fixed-at i l n (info y z a b) = set-early i 3 3 l (r .third i l .1 a) (omega arith) b (final-low 3 (omega arith))
+  fixed-at i l n (head a b) = set-early i 1 9 l (r .headPart i l .1 a) (omega arith) b (final-high 9 (omega arith))
+  fixed-at i l n (free z a b) = set-early i 2 2 l (r .freePart i l .1 a) (omega arith) b (final-low 2 (omega arith))
+  fixed-at i l n (info y z a b) = set-early i 3 3 l (r .infoPart i l .1 a) (omega arith) b (final-low 3 (omega arith))
   fixed-at i l n (gap x y z a b) = set-early i 0 0 l (r .gap i l .1 a) (omega arith) b (final-low 0 (omega arith))
   fixed-at i l n (other x y z a b) = absurd (n b)
 
   -- a row that a directory was given is none of them
   loose-at : (i : ℕ) → i < length qs → 4 ≤ getD gs i 0 → Place s h (getD qs i 0) → firstPart s h (getD qs i 0) ≡ 7
-  loose-at i l k (head a b) = absurd (omega (arith, r .first i l .1 a))
-  loose-at i l k (free z a b) = absurd (omega (arith, r .second i l .1 a))
-  loose-at i l k (info y z a b) = absurd (omega (arith, r .third i l .1 a))
+  loose-at i l k (head a b) = absurd (omega (arith, r .headPart i l .1 a))
+  loose-at i l k (free z a b) = absurd (omega (arith, r .freePart i l .1 a))
+  loose-at i l k (info y z a b) = absurd (omega (arith, r .infoPart i l .1 a))
   loose-at i l k (gap x y z a b) = absurd (omega (arith, r .gap i l .1 a))
   loose-at i l k (other x y z a b) = b
 
@@ -56,7 +56,7 @@ module _ (s : List ℕ) (h : FileHead) (qs : List ℕ) (p : Partition s 100 (len
   four-up i l e (free z a b) = absurd (omega arith)
   four-up i l e (info y z a b) = absurd (omega arith)
   four-up i l e (gap x y z a b) = absurd (omega arith)
-  four-up i l e (other x y z a b) = big (getD gs i 0) (λ f. r .gap i l .0 f a) (λ f. x (r .first i l .0 f)) (λ f. y (r .second i l .0 f)) (λ f. z (r .third i l .0 f))
+  four-up i l e (other x y z a b) = big (getD gs i 0) (λ f. r .gap i l .0 f a) (λ f. x (r .headPart i l .0 f)) (λ f. y (r .freePart i l .0 f)) (λ f. z (r .infoPart i l .0 f))
     where
       big : (k : ℕ) → (k ≡ 0 → ⊥) → (k ≡ 1 → ⊥) → (k ≡ 2 → ⊥) → (k ≡ 3 → ⊥) → 4 ≤ k
       big k a b c d = omega arith
@@ -223,7 +223,7 @@ module _ (s : List ℕ) (h : FileHead) (qs : List ℕ) (p : Partition s 100 (len
       let k = r .keys i (getD hs i 0) l .0 (e, refl) in
       let a = k .1 in
       up i l refl (subst (Leads qs hs) (a .here) (⊎-elim
-      (λ (x : getD gs (a .row) 0 ≡ 1). root (r .first (a .row) (a .within) .0 x))
+      (λ (x : getD gs (a .row) 0 ≡ 1). root (r .headPart (a .row) (a .within) .0 x))
       (λ (x : getD gs (a .row) 0 ≡ 6). r .leads (a .row) (a .within) (inr x))
       (a .part))))
       (λ (e : Listed (getD gs i 0)). r .leads i l e)
@@ -237,7 +237,7 @@ module _ (s : List ℕ) (h : FileHead) (qs : List ℕ) (p : Partition s 100 (len
     parts = r .parts;
     owners = r .owners;
     fixed = λ i l n. let x = fixed-at i l n (place s h (getD qs i 0)) in (x .0, x .1 .1);
-    alone = λ i l e. r .alone i l (inr e);
+    alone = λ i l e. r .noOwner i l (inr e);
     back = λ i l b n. ⊎-elim
         (λ (e : getD gs i 0 ≡ 4). list-back i l e)
         (λ (e : Listed (getD gs i 0)). copy-back i l e)

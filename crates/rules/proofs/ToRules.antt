@@ -335,9 +335,9 @@ module _ (s : List ℕ) (h : FileHead) (qs : List ℕ) (p : Partition s 100 (len
       free = fr;
       info = nf;
       gap = λ i l. (told i l .1 .1 .1 .0, λ n. gap-row i l n (place s h (getD qs i 0)));
-      first = λ i l. (told i l .0, λ e. first-row i l e (place s h (getD qs i 0)));
-      second = λ i l. (told i l .1 .0, λ e. second-row i l e (place s h (getD qs i 0)));
-      third = λ i l. (told i l .1 .1 .0, λ e. third-row i l e (place s h (getD qs i 0)));
+      headPart = λ i l. (told i l .0, λ e. first-row i l e (place s h (getD qs i 0)));
+      freePart = λ i l. (told i l .1 .0, λ e. second-row i l e (place s h (getD qs i 0)));
+      infoPart = λ i l. (told i l .1 .1 .0, λ e. third-row i l e (place s h (getD qs i 0)));
       directory = keys-are;
       keys = λ i d l. (
         λ x. subst (λ (n : ℕ). KeysOf s h qs ps os n (getD qs i 0)) (x .1) (list-from i l (x .0)),
@@ -351,6 +351,6 @@ module _ (s : List ℕ) (h : FileHead) (qs : List ℕ) (p : Partition s 100 (len
       );
       class = λ i l e. copy-from i l e .1;
       once = λ d g ks a k. once-of d g a ks k;
-      alone = λ i l. ⊎-elim (λ (e : getD ps i 0 ≤ 3). alone-row i l e (place s h (getD qs i 0))) (λ (e : getD ps i 0 ≡ 7). v .alone i l e);
+      noOwner = λ i l. ⊎-elim (λ (e : getD ps i 0 ≤ 3). alone-row i l e (place s h (getD qs i 0))) (λ (e : getD ps i 0 ≡ 7). v .alone i l e);
       leads = λ i l e. let n = listed-some (getD ps i 0) e in v .leads i l (told i l .1 .1 .1 .1 (n .0)) (n .1 .0);
     }

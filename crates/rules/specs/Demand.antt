@@ -1,4 +1,5 @@
--- What a verdict means: the third demand. All of it is over the rules; the order of refusals is in none of it.
+-- What a verdict means: the third demand (docs/DEMANDS.md). `verdict` is the order's answer; what it is held to, `Passes` and
+-- `Unfinished`, is over the header, the partition and the rules alone.
 use Prim.Native.Nat.{ℕ, _≤_, _<_}
 use mathlib.Core.List.{List}
 use mathlib.Core.Path.{_≡_}
@@ -10,21 +11,21 @@ use Rattle.rules.specs.Order.{passed, refused, verdict, numberOf}
 use Rattle.rules.specs.Partition.{Partition}
 use Rattle.rules.specs.Rules.{Rules}
 
--- the header is good and qs is a partition of the bytes from 100 to the end
-abbrev pub Cut : List ℕ → FileHead → List ℕ → Type 0
-Cut s h qs = (openedAs s ≡ Good h) × Partition s 100 (length s) qs
+-- the header is good and qs is the partition (document 01: cut) from 100 to END: the lines Header and Pieces
+abbrev pub Partitioned : List ℕ → FileHead → List ℕ → Type 0
+Partitioned s h qs = (openedAs s ≡ Good h) × Partition s 100 (length s) qs
 
 -- starts, parts and owners of a pass in this room
 pub record Passes (s : List ℕ) (room : ℕ) (qs ps os : List ℕ) : Type 0 where
   pub header : FileHead
-  pub partition : Cut s header qs
+  pub partition : Partitioned s header qs
   pub fits : length qs ≤ room
   pub rules : Rules s header qs ps os
 
 pub record Unfinished (s : List ℕ) (room : ℕ) (n : ℕ) : Type 0 where
   pub header : FileHead
   pub starts : List ℕ
-  pub partition : Cut s header starts
+  pub partition : Partitioned s header starts
   pub count : n ≡ length starts
   pub beyond : room < n
 
@@ -38,8 +39,8 @@ pub record Demand (s : List ℕ) (room : ℕ) : Type 0 where
   pub unfinished : numberOf (verdict s room) ≡ 7 → (n : ℕ) × (verdict s room ≡ refused 7 0 n) × Unfinished s room n
   pub beyond : (n : ℕ) → Unfinished s room n → verdict s room ≡ refused 7 0 n
   -- no second partition, and no second assignment that meets the rules
-  pub onePartition : (h k : FileHead) (qs rs : List ℕ) → Cut s h qs → Cut s k rs → qs ≡ rs
-  pub oneAssignment : (h : FileHead) (qs ps os us vs : List ℕ) → Cut s h qs → Rules s h qs ps os → Rules s h qs us vs
+  pub onePartition : (h k : FileHead) (qs rs : List ℕ) → Partitioned s h qs → Partitioned s k rs → qs ≡ rs
+  pub oneAssignment : (h : FileHead) (qs ps os us vs : List ℕ) → Partitioned s h qs → Rules s h qs ps os → Rules s h qs us vs
       → (ps ≡ us) × (os ≡ vs)
   -- the room changes nothing else
   pub anyRoom : (other : ℕ) → (numberOf (verdict s room) ≡ 7 → ⊥) → (numberOf (verdict s other) ≡ 7 → ⊥)

@@ -31,7 +31,7 @@ onPiece rest p (Record k) = prepend p (rest (p + k .nbytes))
 onPiece rest p (Gap n) = prepend p (rest (p + n))
 onPiece rest p (Refused c q) = fault c q
 
--- the chain from p, at most n pieces (a file has fewer than bytes)
+-- the chain from p, at most n pieces (a file has fewer pieces than bytes, so zero is not reached)
 unfoldable pub chain : List ℕ → ℕ → ℕ → Chain
 chain s zero p = fault 5 p
 chain s (suc n) p = pick (ltb p (length s)) (onPiece (chain s n) p (pieceAt s p)) (whole [])
@@ -55,9 +55,6 @@ pub data Verdict : Type 0 where
 abbrev pub onTurn : List ℕ → Turn → Verdict
 onTurn qs (going ps os c) = passed qs ps os
 onTurn qs (stop c p) = refused c p 0
-
-abbrev pub lesser : ℕ → ℕ → ℕ
-lesser a b = pick (leb a b) a b
 
 -- 7 unfinished: pieces exceed room
 abbrev pub onChain : List ℕ → ℕ → FileHead → Chain → Verdict

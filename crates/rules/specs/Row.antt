@@ -10,7 +10,7 @@ use Rattle.wire.specs.Check.{pick}
 abbrev pub Rising : List ℕ → ℕ → Type 0
 Rising t n = (i j : ℕ) → i < j → j < n → getD t i 0 < getD t j 0
 
--- a piece of the partition starts at p
+-- a piece of the partition starts at p (document 01: "a record or a gap is a piece of the cut")
 unfoldable pub starts : List ℕ → ℕ → Bool
 starts [] p = false
 starts (q ∷ qs) p = eqb q p || starts qs p

@@ -1,5 +1,6 @@
 -- The rules for a pass: document 01, "Rules for a pass", over the bytes s, the file header h, a partition qs, and beside each
 -- piece of it a part ps and an owner os. Document 01 calls parts and owners together a giving; here they are an assignment.
+-- The lines Header and Pieces are in Demand.antt.
 use Prim.Native.Nat.{ℕ, _+_, _<_, _≤_}
 use mathlib.Core.Bool.{true}
 use mathlib.Core.List.{List, [], _∷_, map}
@@ -63,7 +64,7 @@ pub record Filled (s qs : List ℕ) (d : ℕ) (dh : DirHead) (ks : List Key) : T
   pub copies : Copies s end (from + 4) ks
   pub entries : Entries s qs d (from + 4) ks
 
--- the directory at d, of header dh, has exactly these copies in its keys list
+-- the directory at d, of header dh, obeys Keys list and Copy, and its list has exactly the copies ks
 abbrev pub KeysAre : List ℕ → List ℕ → ℕ → DirHead → List Key → Type 0
 KeysAre s qs d dh ks = (All (noKeys dh) × (ks ≡ [])) ⊎ Filled s qs d dh ks
 
@@ -84,7 +85,7 @@ pub data Leads (qs os : List ℕ) : ℕ → Type 0 where
   up : {p : ℕ} (i : ℕ) → i < length qs → getD qs i 0 ≡ p → Leads qs os (getD os i 0) → Leads qs os p
 
 module _ (s : List ℕ) (h : FileHead) (qs ps os : List ℕ) where
-  -- in row j stands a directory, at d, and dh is its header
+  -- the piece numbered `row` starts at d and is a directory, and dh is its header
   pub record DirectoryAt (d : ℕ) (dh : DirHead) : Type 0 where
     pub row : ℕ
     pub within : row < length qs
@@ -104,6 +105,8 @@ module _ (s : List ℕ) (h : FileHead) (qs ps os : List ℕ) where
     -- a part and an owner beside each piece of the partition, numbered as in "Numbers given back"
     pub parts : length ps ≡ length qs
     pub owners : length os ≡ length qs
+    -- no other parts. A piece has one part, so no record is two of head, free list, info, keys list, listed; a record that is
+    -- none of them is 7, unlisted
     pub known : (i : ℕ) → i < length qs → getD ps i 0 ≤ 7
     -- Head, Free list, Info
     pub head : (dh : DirHead) × (headIn s (h .nbytesname) ≡ Held dh)
@@ -112,9 +115,9 @@ module _ (s : List ℕ) (h : FileHead) (qs ps os : List ℕ) where
     -- a gap is exactly part 0
     pub gap : (i : ℕ) → i < length qs → Iff (getD ps i 0 ≡ 0) (gapOf (pieceAt s (getD qs i 0)) ≡ 0 → ⊥)
     -- head, free list and info are the records at 100, SeekFree and, where it is not 0 (no piece starts at 0), SeekInfo
-    pub first : (i : ℕ) → i < length qs → Iff (getD ps i 0 ≡ 1) (getD qs i 0 ≡ 100)
-    pub second : (i : ℕ) → i < length qs → Iff (getD ps i 0 ≡ 2) (getD qs i 0 ≡ h .seekfree)
-    pub third : (i : ℕ) → i < length qs → Iff (getD ps i 0 ≡ 3) (getD qs i 0 ≡ h .seekinfo)
+    pub headPart : (i : ℕ) → i < length qs → Iff (getD ps i 0 ≡ 1) (getD qs i 0 ≡ 100)
+    pub freePart : (i : ℕ) → i < length qs → Iff (getD ps i 0 ≡ 2) (getD qs i 0 ≡ h .seekfree)
+    pub infoPart : (i : ℕ) → i < length qs → Iff (getD ps i 0 ≡ 3) (getD qs i 0 ≡ h .seekinfo)
     -- Directory header, Keys list, Copy: each directory (the head, part 1, and every part 6) obeys them
     pub directory : (i : ℕ) → i < length qs → Directory (getD ps i 0)
         → (dh : DirHead) × (ks : List Key) × (dirOf s h (getD qs i 0) (getD os i 0) ≡ Held dh) × KeysAre s qs (getD qs i 0) dh ks
@@ -127,6 +130,6 @@ module _ (s : List ℕ) (h : FileHead) (qs ps os : List ℕ) where
     -- none is copied twice: not by one directory; by two, it would have two owners
     pub once : (d : ℕ) (dh : DirHead) (ks : List Key) → DirectoryAt d dh → KeysAre s qs d dh ks → Distinct (places ks)
     -- owner is the directory's place for 4, 5, 6, else 0
-    pub alone : (i : ℕ) → i < length qs → (getD ps i 0 ≤ 3) ⊎ (getD ps i 0 ≡ 7) → getD os i 0 ≡ 0
+    pub noOwner : (i : ℕ) → i < length qs → (getD ps i 0 ≤ 3) ⊎ (getD ps i 0 ≡ 7) → getD os i 0 ≡ 0
     -- from every listed record the owners lead to 100
     pub leads : (i : ℕ) → i < length qs → Listed (getD ps i 0) → Leads qs os (getD qs i 0)

@@ -1,5 +1,5 @@
 -- The order of refusals among the directories: document 01, "Order". It goes over the parts and owners given so far; the rules do
--- not mention it. A directory that was found and is not done has its part plus 8: the head 9, another 14.
+-- not mention it. A directory that was found and is not done has its part plus 8: the head 9, another 14. These are marks in the part table; the mark 14 is not the refusal 14.
 use Prim.Native.Nat.{ℕ, zero, suc, _+_, _-_}
 use mathlib.Core.List.{List, [], _∷_, map}
 use lib.Dec.{eqb, leb, ltb}
@@ -38,7 +38,7 @@ give i part d next place ps os = pick (eqb (getD ps i 0) 7) (going (set ps i par
 unfoldable pub listedMark : List ℕ → ℕ → ℕ
 listedMark s p = pick (dirClass s (pieceAt s p)) 14 5
 
--- one copy at c, in the list at seek of the directory at d, that ends at end: 12 if it does not parse, 13, 14
+-- one copy at c, in the list at seek of the directory at d: 12 if it does not parse, 13, 14
 abbrev pub onCopy : List ℕ → List ℕ → ℕ → ℕ → ℕ → List ℕ → List ℕ → Header → Turn
 onCopy s qs d seek c ps os (Good k) =
     pick (all (entryFits s qs d c k))
@@ -97,7 +97,7 @@ unfoldable pub nextRow : List ℕ → ℕ
 nextRow [] = 0
 nextRow (k ∷ ps) = pick (leb 8 k) 0 (suc (nextRow ps))
 
--- directories, lowest place first among those found and not done: at most n of them
+-- directories, lowest place first among those found and not done: at most n of them; as many as rows is enough (`Counts.fewer`)
 unfoldable pub rounds : List ℕ → FileHead → List ℕ → ℕ → List ℕ → List ℕ → ℕ → Turn
 rounds s h qs zero ps os c = going ps os c
 rounds s h qs (suc n) ps os c =

@@ -27,6 +27,10 @@ pub record Word (s : List ℕ) (p r : ℕ) : Type 0 where
   pub third : getD s (p + 2) 0 ≤ 255
   pub fourth : getD s (p + 3) 0 ≤ 255
 
+-- the lesser of two numbers
+abbrev pub lesser : ℕ → ℕ → ℕ
+lesser a b = pick (leb a b) a b
+
 -- the w bytes of a number
 unfoldable pub beBytes : ℕ → ℕ → List ℕ
 beBytes zero v = []

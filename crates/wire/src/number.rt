@@ -2,7 +2,7 @@
 ghost use mathlib.Core.Path.{_≡_};
 ghost use Prim.Native.Nat.{_<_, _≤_, _+_};
 ghost use lib.ListN.{length};
-ghost use Rattle.wire.specs.Number.{numAt, Word, signedOf, bits16};
+ghost use Rattle.wire.specs.Number.{numAt, Word, lesser, signedOf, bits16};
 
 fn wide(b: u8) -> u32
     ensures { λ r. ⌜ (r ≡ b) × (r ≤ 255) ⌝ }
@@ -42,6 +42,16 @@ pub fn be32(s: &[u8], at: usize) -> u32
         return 0;
     }
     word(s, at)
+}
+
+// The lesser of two numbers.
+pub fn least(a: usize, b: usize) -> usize
+    ensures { λ r. ⌜ r ≡ lesser a b ⌝ }
+{
+    if a <= b {
+        return a;
+    }
+    b
 }
 
 // The signed value of 16 bits.

@@ -43,12 +43,12 @@ pub fn audit_with_room(tally: &mut Tally, file: &[u8], more: usize) -> (Answer, 
     audit(tally, file, lengths)
 }
 
-/// The same, and the file passes exactly if one giving meets the rules, and has its rows. A small
+/// The same, and the file passes exactly if one assignment meets the rules, and has its rows. A small
 /// file only.
 pub fn audit_by_rules(tally: &mut Tally, file: &[u8]) -> (Answer, Vec<Row>) {
     let (answer, rows) = audit_with_room(tally, file, 0);
-    let givings = rules::givings(file);
+    let assignments = rules::assignments(file);
     let expected = if answer.number == 0 { vec![rows.clone()] } else { Vec::new() };
-    assert!(givings == expected, "{answer:?} {rows:?}\n rules {givings:?}\n{}", dump(file));
+    assert!(assignments == expected, "{answer:?} {rows:?}\n rules {assignments:?}\n{}", dump(file));
     (answer, rows)
 }

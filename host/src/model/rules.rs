@@ -1,4 +1,4 @@
-//! The rules for a pass as statements over the bytes, the cut and a giving. They are checked for
+//! The rules for a pass as statements over the bytes, the partition (document 01: cut) and an assignment (giving). They are checked for
 //! every set of directories that could be, without any order: slow, and for small files only.
 
 use super::audit::{part, Row};
@@ -7,12 +7,12 @@ use std::collections::{HashMap, HashSet};
 /// Sets of more directories than this are not tried.
 const MOST_DIRECTORIES: usize = 12;
 
-/// Every giving that meets the rules, as rows. There should never be two.
-pub fn givings(file: &[u8]) -> Vec<Vec<Row>> {
-    let Some(cut) = header_holds(file).then(|| cut(file, 100)).flatten() else {
+/// Every assignment that meets the rules, as rows. There should never be two.
+pub fn assignments(file: &[u8]) -> Vec<Vec<Row>> {
+    let Some(partition) = header_holds(file).then(|| partition(file, 100)).flatten() else {
         return Vec::new();
     };
-    let mut rules = Rules { file, cut, lists: HashMap::new() };
+    let mut rules = Rules { file, partition, lists: HashMap::new() };
     if !(rules.head_holds() && rules.free_holds() && rules.info_holds()) {
         return Vec::new();
     }
@@ -23,7 +23,7 @@ pub fn givings(file: &[u8]) -> Vec<Vec<Row>> {
     let could_be: Vec<usize> = rules.could_be_directories().filter(|at| *at != 100 && copied.contains(at)).collect();
     assert!(could_be.len() <= MOST_DIRECTORIES, "too many directories to try every set of them");
     let with_head = subsets(&could_be).map(|set| [&[100], &set[..]].concat());
-    with_head.filter_map(|set| rules.giving(&set)).collect()
+    with_head.filter_map(|set| rules.assignment(&set)).collect()
 }
 
 fn subsets(items: &[usize]) -> impl Iterator<Item = Vec<usize>> + '_ {
@@ -82,7 +82,7 @@ fn header_holds(file: &[u8]) -> bool {
 }
 
 /// Where the pieces start that fill the file from `at` on, and whether each is a record.
-fn cut(file: &[u8], at: usize) -> Option<Vec<(usize, bool)>> {
+fn partition(file: &[u8], at: usize) -> Option<Vec<(usize, bool)>> {
     let mut pieces = Vec::new();
     let mut at = at;
     while at != file.len() {
@@ -127,7 +127,7 @@ type List<'a> = (usize, Vec<Key<'a>>);
 
 struct Rules<'a> {
     file: &'a [u8],
-    cut: Vec<(usize, bool)>,
+    partition: Vec<(usize, bool)>,
     /// For each record that could be a directory, its list if that and its copies keep their rules.
     lists: HashMap<usize, Option<List<'a>>>,
 }
@@ -137,9 +137,9 @@ impl<'a> Rules<'a> {
         number(self.file, at, 4, self.file.len()).unwrap()
     }
 
-    /// The key of the record of the cut at `at`.
+    /// The key of the record of the partition at `at`.
     fn record(&self, at: usize) -> Option<Key<'a>> {
-        self.cut.contains(&(at, true)).then(|| {
+        self.partition.contains(&(at, true)).then(|| {
             let end = at + number(self.file, at, 4, self.file.len()).unwrap();
             key(self.file, at, end).unwrap()
         })
@@ -148,7 +148,7 @@ impl<'a> Rules<'a> {
     /// The head, and the records of class TDirectory.
     fn could_be_directories(&self) -> impl Iterator<Item = usize> + '_ {
         let is_directory = |key: Key| key.class == b"TDirectory";
-        self.cut.iter().map(|&(at, _)| at).filter(move |&at| at == 100 || self.record(at).is_some_and(is_directory))
+        self.partition.iter().map(|&(at, _)| at).filter(move |&at| at == 100 || self.record(at).is_some_and(is_directory))
     }
 
     /// After the head's two strings.
@@ -188,8 +188,8 @@ impl<'a> Rules<'a> {
         let data = &self.file[seek_free + key.keylen..seek_free + key.nbytes];
         let segments: Vec<_> = data.chunks(10).collect();
         let firsts_and_lasts: Vec<_> = segments.iter().map(|segment| segment.get(2..10)).collect();
-        let after = |i: usize| self.cut.get(i + 1).map_or(self.file.len(), |&(at, _)| at);
-        let gaps = self.cut.iter().enumerate().filter(|(_, (_, is_record))| !is_record);
+        let after = |i: usize| self.partition.get(i + 1).map_or(self.file.len(), |&(at, _)| at);
+        let gaps = self.partition.iter().enumerate().filter(|(_, (_, is_record))| !is_record);
         let mut spaces: Vec<_> = gaps.map(|(i, &(at, _))| pair(at, after(i))).collect();
         spaces.push(pair(self.file.len(), 2_000_000_000));
         seek_free != 100
@@ -210,10 +210,10 @@ impl<'a> Rules<'a> {
         (seek_info, nbytes_info) == (0, 0) || self.record(seek_info).is_some_and(is_info)
     }
 
-    /// The giving whose directories are exactly `set`, if it meets the rules.
-    fn giving(&self, set: &[usize]) -> Option<Vec<Row>> {
+    /// The assignment whose directories are exactly `set`, if it meets the rules.
+    fn assignment(&self, set: &[usize]) -> Option<Vec<Row>> {
         let mut rows = Vec::new();
-        for &(at, is_record) in &self.cut {
+        for &(at, is_record) in &self.partition {
             let roles = self.roles(at, is_record, set)?;
             if roles.len() > 1 {
                 return None;
@@ -226,8 +226,8 @@ impl<'a> Rules<'a> {
             is_directory == set.contains(&(row.start as usize))
         });
         let headers_hold = rows.iter().all(|row| row.part != part::DIR || self.subdirectory_holds(row));
-        let lead_home = rows.iter().all(|row| !is_listed(row) || leads_home(&rows, row));
-        (is_set && headers_hold && lead_home).then_some(rows)
+        let lead_to_head = rows.iter().all(|row| !is_listed(row) || leads_to_head(&rows, row));
+        (is_set && headers_hold && lead_to_head).then_some(rows)
     }
 
     /// Each part and owner that the piece at `at` has. None if a list or a copy breaks its rule.
@@ -309,7 +309,7 @@ fn is_listed(row: &Row) -> bool {
 }
 
 /// Whether taking the owner again and again arrives at 100.
-fn leads_home(rows: &[Row], row: &Row) -> bool {
+fn leads_to_head(rows: &[Row], row: &Row) -> bool {
     let mut at = row.owner;
     for _ in rows {
         at = match rows.iter().find(|row| row.start == at) {

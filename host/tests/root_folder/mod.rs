@@ -1,11 +1,8 @@
-//! Files written by ROOT. They are not part of the repository: ROOT_FILES names their folder, or they
-//! stand beside the checkout, in shared/root-files.
+//! Files written by ROOT. They are not part of the repository: ROOT_FILES names their folder.
 
 use kirovadzun_host::model::Answer;
 use std::path::{Path, PathBuf};
 use std::{env, fs};
-
-const BESIDE: &str = "../../shared/root-files";
 
 /// What the audit answers for some of them, while only four-byte offsets are read.
 const KNOWN: [(&str, Answer); 3] = [
@@ -16,14 +13,9 @@ const KNOWN: [(&str, Answer); 3] = [
 
 /// The *.root files, in the order of their names. None, and a word about it, if there is no folder.
 pub fn root_files() -> Option<Vec<PathBuf>> {
-    let beside = Path::new(env!("CARGO_MANIFEST_DIR")).join(BESIDE);
-    let folder = match env::var_os("ROOT_FILES") {
-        Some(folder) => PathBuf::from(folder),
-        None if beside.is_dir() => beside,
-        None => {
-            println!("skipped: ROOT_FILES names no folder of *.root files, and none stands beside the checkout");
-            return None;
-        }
+    let Some(folder) = env::var_os("ROOT_FILES").map(PathBuf::from) else {
+        println!("skipped: ROOT_FILES names no folder of *.root files");
+        return None;
     };
     let mut paths: Vec<PathBuf> = fs::read_dir(&folder).unwrap().map(|entry| entry.unwrap().path()).collect();
     paths.retain(|path| path.extension().is_some_and(|extension| extension == "root"));

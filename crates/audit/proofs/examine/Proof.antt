@@ -3,16 +3,16 @@ use mathlib.Core.Path.{_∙_, sym}
 use denote.Ref.{now}
 use lib.Seq.{length-take-le}
 use Rattle.rules.proofs.Chains.{opened-long}
-use Rattle.audit.proofs.Verdicts.{header-refused, chain-refused, Cut, cut, cut-kept, Fits, cut-fits, cut-seven, cut-tables, cut-stops, cut-passes}
+use Rattle.audit.proofs.Verdicts.{header-refused, chain-refused, Entire, entire, entire-kept, Fits, entire-fits, entire-seven, entire-tables, entire-stops, entire-passes}
 use borrow.Author.Needs.{needs}
 use Rattle.audit.proofs.examine.Statement.{statement}
 use Rattle.audit.proofs.examine.Tie as tie
 
-whole : (c : tie.Else1) → Cut (now (c .before .before .before .before .before .before .before .before .before .before .before .before .before .before .before .before .before .before .args .file)) (c .before .before .before .before .before .before .before .before .before .before .before .h .given .0 .0) (now (c .before .before .before .before .before .before .before .before .before .before .before .before .before .before .before .before .before .before .args .start)) (c .before .before .before .before .before .before .before .before .walk .last .1 .0) (c .before .before .before .before .n .given .0 .0)
-whole c = cut _ _ _ (sym (c .before .before .before .before .before .before .before .before .before .before .before .h .given .1) ∙ c .before .before .before .before .before .before .before .before .before .before .before .before .before .«open» .ensures) (c .before .before .before .before .n .given .1) (c .before .before .before .before .before .before .before .before .walk .ensures)
+whole : (c : tie.Else1) → Entire (now (c .before .before .before .before .before .before .before .before .before .before .before .before .before .before .before .before .before .before .args .file)) (c .before .before .before .before .before .before .before .before .before .before .before .h .given .0 .0) (now (c .before .before .before .before .before .before .before .before .before .before .before .before .before .before .before .before .before .before .args .start)) (c .before .before .before .before .before .before .before .before .walk .last .1 .0) (c .before .before .before .before .n .given .0 .0)
+whole c = entire _ _ _ (sym (c .before .before .before .before .before .before .before .before .before .before .before .h .given .1) ∙ c .before .before .before .before .before .before .before .before .before .before .before .before .before .«open» .ensures) (c .before .before .before .before .n .given .1) (c .before .before .before .before .before .before .before .before .walk .ensures)
 
 room : (c : tie.Else1) → Fits (c .before .before .before .before .n .given .0 .0) (now (c .before .before .before .before .before .before .before .before .before .before .before .before .before .before .before .before .before .before .args .start)) (now (c .before .before .before .before .before .before .before .before .before .before .before .before .before .before .before .before .before .before .args .part)) (now (c .before .before .before .before .before .before .before .before .before .before .before .before .before .before .before .before .before .before .args .owner))
-room c = cut-fits (whole c) _ _ (c .before .least2 .ensures) (c .before .before .least .ensures) (c .if1 .left)
+room c = entire-fits (whole c) _ _ (c .before .least2 .ensures) (c .before .before .least .ensures) (c .if1 .left)
 
 open-requires : tie.Need-open-requires
 open-requires c κs = search needs
@@ -57,13 +57,13 @@ same-length-2 : tie.Need-same-length-2
 same-length-2 c = search needs
 
 returns-3 : tie.Need-returns-3
-returns-3 c = let a = c .before .before .before .before .before .before .before .before .before .before .before .before .before .before .before .before .before .before .args in cut-seven (cut _ _ _ (sym (c .before .before .before .before .before .before .before .before .before .before .before .h .given .1) ∙ c .before .before .before .before .before .before .before .before .before .before .before .before .before .«open» .ensures) (c .before .before .before .before .n .given .1) (c .before .before .before .before .before .before .before .before .walk .ensures)) (now (a .part)) (now (a .owner)) (c .before .least2 .ensures) (c .before .before .least .ensures) _ _ (c .if1 .taken)
+returns-3 c = let a = c .before .before .before .before .before .before .before .before .before .before .before .before .before .before .before .before .before .before .args in entire-seven (entire _ _ _ (sym (c .before .before .before .before .before .before .before .before .before .before .before .h .given .1) ∙ c .before .before .before .before .before .before .before .before .before .before .before .before .before .«open» .ensures) (c .before .before .before .before .n .given .1) (c .before .before .before .before .before .before .before .before .walk .ensures)) (now (a .part)) (now (a .owner)) (c .before .least2 .ensures) (c .before .before .least .ensures) _ _ (c .if1 .taken)
 
 slice-reshare-prefix-survey : tie.Need-slice-reshare-prefix-survey
-slice-reshare-prefix-survey c = omega (arith, room c .starts, cut-kept (whole c))
+slice-reshare-prefix-survey c = omega (arith, room c .starts, entire-kept (whole c))
 
 slice-aggregate-survey : tie.Need-slice-aggregate-survey
-slice-aggregate-survey c = sym (length-take-le _ _ (omega (arith, room (c .before) .starts, cut-kept (whole (c .before)))))
+slice-aggregate-survey c = sym (length-take-le _ _ (omega (arith, room (c .before) .starts, entire-kept (whole (c .before)))))
 
 slice-relend-prefix-survey : tie.Need-slice-relend-prefix-survey
 slice-relend-prefix-survey c = room (c .before) .parts
@@ -78,7 +78,7 @@ slice-aggregate-survey-3 : tie.Need-slice-aggregate-survey-3
 slice-aggregate-survey-3 c = sym (length-take-le _ _ (room (c .before .before .before) .owners))
 
 survey-requires : tie.Need-survey-requires
-survey-requires c κs = cut-tables (whole (c .before .before .before)) (room (c .before .before .before))
+survey-requires c κs = entire-tables (whole (c .before .before .before)) (room (c .before .before .before))
 
 enum-told : tie.Need-enum-told
 enum-told c = search needs
@@ -99,7 +99,7 @@ same-length-5 : tie.Need-same-length-5
 same-length-5 c = search needs
 
 returns-4 : tie.Need-returns-4
-returns-4 c = cut-passes (whole (c .before .before .before .before .before .before .before .before .before .before)) (room (c .before .before .before .before .before .before .before .before .before .before)) (c .before .before .before .before .before .before .survey .last .1 .1 .0) (c .before .before .before .before .before .before .survey .last .1 .1 .1 .0) _ _ (c .before .before .before .before .before .part .given .0) (c .before .before .before .owner .given .0) (c .enum-told .given .1) (c .before .before .before .before .before .before .survey .ensures)
+returns-4 c = entire-passes (whole (c .before .before .before .before .before .before .before .before .before .before)) (room (c .before .before .before .before .before .before .before .before .before .before)) (c .before .before .before .before .before .before .survey .last .1 .1 .0) (c .before .before .before .before .before .before .survey .last .1 .1 .1 .0) _ _ (c .before .before .before .before .before .part .given .0) (c .before .before .before .owner .given .0) (c .enum-told .given .1) (c .before .before .before .before .before .before .survey .ensures)
 
 same-length-6 : tie.Need-same-length-6
 same-length-6 c = search needs
@@ -111,7 +111,7 @@ same-length-8 : tie.Need-same-length-8
 same-length-8 c = search needs
 
 returns-5 : tie.Need-returns-5
-returns-5 c = cut-stops (whole (c .before .before .before .before .before .before .before .before .before .before .before .before)) (room (c .before .before .before .before .before .before .before .before .before .before .before .before)) _ _ _ _ (c .before .before .c3 .given .1) (c .before .before .before .before .before .before .before .before .survey .ensures) (c .refuse3 .ensures)
+returns-5 c = entire-stops (whole (c .before .before .before .before .before .before .before .before .before .before .before .before)) (room (c .before .before .before .before .before .before .before .before .before .before .before .before)) _ _ _ _ (c .before .before .c3 .given .1) (c .before .before .before .before .before .before .before .before .survey .ensures) (c .refuse3 .ensures)
 
 pub examine-spec : {M : Type 1} → statement M
 examine-spec =

@@ -1,6 +1,6 @@
 use borrow.Author.Tests.{le-leb, lt-leb}
-use Rattle.audit.proofs.least.Statement.{statement}
-use Rattle.audit.proofs.least.Tie as tie
+use Rattle.wire.proofs.number.least.Statement.{statement}
+use Rattle.wire.proofs.number.least.Tie as tie
 
 returns : tie.Need-returns
 returns c = rw (le-leb _ _ (c .if1 .taken))
