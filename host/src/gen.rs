@@ -200,6 +200,16 @@ pub fn damage(rng: &mut Rng, file: &mut Vec<u8>, at: usize) {
     }
 }
 
+/// What document 01 prints for one.root.
+pub const ONE_ROOT_LIST: &str = "\
+passed 5
+100 68 head 0
+168 50 listed 100
+218 79 keys 100
+297 12 gap 0
+309 55 free 0
+";
+
 /// The project's small file: its head, one object, its keys list, a gap of 12 bytes and its free list.
 pub fn one_root() -> Vec<u8> {
     let datime = 1_960_757_165u32;

@@ -3,7 +3,7 @@
 use kirovadzun_host::compare::audit::{audit, audit_by_rules};
 use kirovadzun_host::compare::Tally;
 use kirovadzun_host::gen::files::one_root_plan;
-use kirovadzun_host::gen::{one_root, Rng};
+use kirovadzun_host::gen::{one_root, Rng, ONE_ROOT_LIST};
 use kirovadzun_host::model::audit::{part, Row};
 use kirovadzun_host::model::Answer;
 
@@ -14,15 +14,6 @@ const ROWS: [Row; 5] = [
     Row { start: 297, part: part::GAP, owner: 0 },
     Row { start: 309, part: part::FREE, owner: 0 },
 ];
-
-const PRINTED: &str = "\
-passed 5
-100 68 head 0
-168 50 listed 100
-218 79 keys 100
-297 12 gap 0
-309 55 free 0
-";
 
 fn answer(number: u64, place: u64, count: u64) -> Answer {
     Answer { number, place, count }
@@ -51,7 +42,7 @@ fn passes() {
     let mut tally = Tally::new("audit, one.root");
     let (got, rows) = audit_by_rules(&mut tally, &one_root());
     assert_eq!((got, &rows[..]), (answer(0, 0, 5), &ROWS[..]));
-    assert_eq!(printed(&rows, 364), PRINTED);
+    assert_eq!(printed(&rows, 364), ONE_ROOT_LIST);
     tally.finish(1, &[0]);
 }
 

@@ -1,23 +1,13 @@
 //! The command rootaudit: what it prints, and its exit status.
 
 use kirovadzun_host::gen::files::plan_of;
-use kirovadzun_host::gen::{nested, one_root, Rng};
+use kirovadzun_host::gen::{nested, one_root, Rng, ONE_ROOT_LIST};
 use kirovadzun_host::model::audit::{self, part};
 use kirovadzun_host::rootaudit::verdict::first_room;
 use std::ffi::OsStr;
 use std::fs;
 use std::path::{Path, PathBuf};
 use std::process::Command;
-
-/// What document 01 has for one.root.
-const ONE_ROOT: &str = "\
-passed 5
-100 68 head 0
-168 50 listed 100
-218 79 keys 100
-297 12 gap 0
-309 55 free 0
-";
 
 const PASSED: i32 = 0;
 const REFUSED: i32 = 1;
@@ -57,7 +47,7 @@ fn passes() {
 fn prints_rows() {
     let path = store("audit_rows.root", &one_root());
     let (status, out, errors) = rootaudit(&[OsStr::new("--rows"), path.as_os_str()]);
-    assert_eq!((status, out, errors), (PASSED, format!("{}: {ONE_ROOT}", path.display()), String::new()));
+    assert_eq!((status, out, errors), (PASSED, format!("{}: {ONE_ROOT_LIST}", path.display()), String::new()));
 }
 
 /// What is done to one.root.
@@ -183,7 +173,7 @@ fn command_line() {
     assert_eq!((status, errors.as_str(), out.lines().count()), (FAILED, "", 2));
     assert!(out.starts_with("--rows: could not be read: ") && out.ends_with(&line(&path, "passed 5")), "{out}");
     // An option may come after a file.
-    assert_eq!(rootaudit(&[path.as_os_str(), rows]).1, format!("{}: {ONE_ROOT}", path.display()));
+    assert_eq!(rootaudit(&[path.as_os_str(), rows]).1, format!("{}: {ONE_ROOT_LIST}", path.display()));
     for wrong in [vec![], vec!["--row"], vec!["-x", "a"], vec!["--rows"], vec!["a", "--rows=1"], vec!["--"]] {
         let (status, out, errors) = rootaudit(&wrong);
         assert_eq!((status, out.as_str()), (FAILED, ""), "{wrong:?}");

@@ -3,7 +3,7 @@
 mod root_folder;
 
 use kirovadzun_host::gen::files::{one_root_plan, plan, Item, Role, SMALL};
-use kirovadzun_host::gen::{damage, one_root, Rng};
+use kirovadzun_host::gen::{damage, one_root, Rng, ONE_ROOT_LIST};
 use kirovadzun_host::model::audit::{audit, part};
 use kirovadzun_host::model::number;
 use root_folder::root_files;
@@ -68,8 +68,7 @@ fn gaps(pieces: usize) -> Vec<u8> {
 
 #[test]
 fn one_root_as_document_01_has_it() {
-    let text = "passed 5\n100 68 head 0\n168 50 listed 100\n218 79 keys 100\n297 12 gap 0\n309 55 free 0\n";
-    assert_eq!(printed(&one_root()), text);
+    assert_eq!(printed(&one_root()), ONE_ROOT_LIST);
 }
 
 #[test]

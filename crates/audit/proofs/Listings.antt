@@ -40,9 +40,6 @@ pub ran-fault : (us vs : List ℕ) (n p : ℕ) {x : Turn} → x ≡ stop n p →
 unfolding Ran
 ran-fault us vs n p e = rw e (refl, refl)
 
-pub as-turn : {x y : Turn} (r : Listed) (us vs : List ℕ) → y ≡ x → Ran x r us vs → Ran y r us vs
-as-turn r us vs e h = rw e h
-
 pub next-is : (x : Turn) (us vs : List ℕ) (at low : ℕ) → Ran x (Next at low) us vs → x ≡ going us vs at
 unfolding Ran
 next-is (going ps os c) us vs at low h = sym (λ i. going (h .1 .0 i) (h .1 .1 i) (h .0 i))

@@ -31,6 +31,7 @@ use Rattle.audit.specs.declared.chain.Outcome.{Outcome}
 use Rattle.audit.specs.declared.keys.Listed.{Listed}
 use Rattle.audit.specs.declared.chain.Outcome.the-variants as outcome
 use Rattle.audit.specs.declared.keys.Listed.the-variants.{Next, Fault}
+use Rattle.audit.proofs.Listings.{next-is, fault-is}
 use Rattle.audit.proofs.Partitions.{roomy, length-over}
 
 -- what examine promises
@@ -66,21 +67,11 @@ module _ (s : List ℕ) (room : ℕ) where
       verdict-turn l e = by-room ∙ rw (le-leb (length qs) room l, e)
 
 -- a turn, from the answer
-next-by : (t : Turn) (a b : ℕ) (us vs : List ℕ) → Ran t (Next a b) us vs → t ≡ going us vs a
-unfolding Ran
-next-by (going ps os c) a b us vs r = rw (r .0, r .1 .0, r .1 .1)
-next-by (stop n p) a b us vs r = absurd r
-
 ran-next : (t : Turn) (us vs : List ℕ) {a b : ℕ} {r : Listed} → r ≡ Next a b → Ran t r us vs → t ≡ going us vs a
-ran-next t us vs {a} {b} e k = next-by t a b us vs (subst (λ (x : Listed). Ran t x us vs) e k)
-
-fault-by : (t : Turn) (c q : ℕ) (us vs : List ℕ) → Ran t (Fault c q) us vs → t ≡ stop c q
-unfolding Ran
-fault-by (going ps os n) c q us vs r = absurd r
-fault-by (stop n p) c q us vs r = rw (r .0, r .1)
+ran-next t us vs {a} {b} e k = next-is t us vs a b (subst (λ (x : Listed). Ran t x us vs) e k)
 
 ran-fault : (t : Turn) (us vs : List ℕ) {c q : ℕ} {r : Listed} → r ≡ Fault c q → Ran t r us vs → t ≡ stop c q
-ran-fault t us vs {c} {q} e k = fault-by t c q us vs (subst (λ (x : Listed). Ran t x us vs) e k)
+ran-fault t us vs {c} {q} e k = fault-is t us vs c q (subst (λ (x : Listed). Ran t x us vs) e k)
 
 -- what is told of a refusal and of a pass
 module _ {v : Verdict} (t u w : List ℕ) where

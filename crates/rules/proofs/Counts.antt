@@ -8,7 +8,6 @@ use borrow.Author.Tests.{le-leb, lt-leb, leb-true, leb-false}
 use lib.Dec.{leb}
 use lib.ListN.{length, getD, set, length-set}
 use Rattle.wire.specs.Check.{pick}
-use Rattle.rules.specs.Turn.{nextRow}
 use Rattle.rules.proofs.Items.{Item, item, Assign, Proper}
 use mathlib.Core.Logic.{inl, inr}
 
@@ -72,23 +71,3 @@ pub fewer : (d : ℕ) (its : List Item) (ps os us vs : List ℕ) (j k : ℕ) →
     → j < length us → 8 ≤ getD us j 0 → k < 7 → count (set us j k) < count ps
 fewer d its ps os us vs j k b a l h z =
     omega (arith, assign-count d its ps os us vs b a, count-set us j k l, heavy (getD us j 0) (omega arith), light k z)
-
--- the next directory
-pub next-marked : (ps : List ℕ) → nextRow ps < length ps → 8 ≤ getD ps (nextRow ps) 0
-unfolding nextRow
-next-marked [] l = absurd (omega arith)
-next-marked (k ∷ ps) l = go (leb 8 k) refl (next-marked ps) l
-  where
-    go : (b : Bool) → leb 8 k ≡ b → (nextRow ps < length ps → 8 ≤ getD ps (nextRow ps) 0) → pick b 0 (suc (nextRow ps)) < length (k ∷ ps) → 8 ≤ getD (k ∷ ps) (pick b 0 (suc (nextRow ps))) 0
-    go true f r l = leb-true 8 k f
-    go false f r l = r (omega arith)
-
-pub next-none : (ps : List ℕ) → length ps ≤ nextRow ps → (i : ℕ) → i < length ps → getD ps i 0 < 8
-unfolding nextRow
-next-none [] l i h = absurd (omega arith)
-next-none (k ∷ ps) l i h = go (leb 8 k) refl (next-none ps) l i h
-  where
-    go : (b : Bool) → leb 8 k ≡ b → (length ps ≤ nextRow ps → (i : ℕ) → i < length ps → getD ps i 0 < 8) → length (k ∷ ps) ≤ pick b 0 (suc (nextRow ps)) → (i : ℕ) → i < length (k ∷ ps) → getD (k ∷ ps) i 0 < 8
-    go true f r l i h = absurd (omega arith)
-    go false f r l zero h = leb-false 8 k f
-    go false f r l (suc i) h = r (omega arith) i (omega arith)

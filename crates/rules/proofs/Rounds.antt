@@ -13,10 +13,11 @@ use Rattle.layout.specs.declared.file.FileHead.{FileHead}
 use Rattle.rules.specs.Partition.{Partition}
 use Rattle.rules.specs.Turn.{going, andThen, settle, dirTurn, roundTurn, nextRow, rounds}
 use Rattle.rules.proofs.Agreement.{Agree, gives, says, goes-on, agrees, equal}
-use Rattle.rules.proofs.Counts.{count, count-none, fewer, next-marked, next-none}
+use Rattle.rules.proofs.Counts.{count, count-none, fewer}
 use Rattle.rules.proofs.Directories.{graph, zero-place}
 use Rattle.rules.proofs.Graph.{State, given-not, stepped}
 use Rattle.rules.proofs.Items.{Item, Assign, Assigned, Proper, assigned}
+use Rattle.rules.proofs.Rows.{next-row}
 use Rattle.rules.proofs.Runs.{Said, dir-went, dir-goes, and-then, from-there}
 
 module _ (s : List ℕ) (h : FileHead) (qs : List ℕ) (p : Partition s 100 (length s) qs) where
@@ -78,7 +79,7 @@ module _ (s : List ℕ) (h : FileHead) (qs : List ℕ) (p : Partition s 100 (len
           let r = nextRow ps in
           let l = ltb-true r (length ps) t in
           let m = next-inside ps os v l in
-          let todo = next-marked ps l in
+          let todo = next-row ps .found l in
           let x = and-then (rounds s h qs f) (andThen (settle r (getD ps r 0 - 8)) (dirTurn s h qs r ps os)) g in
           let y = and-then (settle r (getD ps r 0 - 8)) (dirTurn s h qs r ps os) (x .3) in
           let w = dir-went s qs h r ps os (y .0) (y .1) (y .2) (y .3) in
@@ -90,7 +91,7 @@ module _ (s : List ℕ) (h : FileHead) (qs : List ℕ) (p : Partition s 100 (len
           (omega (arith, less ps os v r m todo (w .0) (w .1) (y .0) (y .1) (w .2)))
           (from-there (rounds s h qs f) (set (y .0) r (getD ps r 0 - 8)) (y .1) (x .0) (x .1) (x .2) (x .2) (going us vs e) a b refl (x .4))
       go false t more g =
-          at-rest ps os us vs c e v (λ i l. next-none ps (ltb-false (nextRow ps) (length ps) t) i (omega (arith, v .parts))) g
+          at-rest ps os us vs c e v (λ i l. next-row ps .before i (omega (arith, v .parts, ltb-false (nextRow ps) (length ps) t))) g
 
   module _ (gs hs : List ℕ) (w : S gs hs) (whole : Over gs) where
     abbrev A : List ℕ → List ℕ → Type 0
@@ -115,7 +116,7 @@ module _ (s : List ℕ) (h : FileHead) (qs : List ℕ) (p : Partition s 100 (len
             let r = nextRow ps in
             let l = ltb-true r (length ps) t in
             let m = next-inside ps os v l in
-            let todo = next-marked ps l in
+            let todo = next-row ps .found l in
             let its = gives qs (graph s h qs p) gs hs w whole ps os v k r m todo in
             let d = says qs (graph s h qs p) gs hs w whole ps os v k r m todo in
             let x = goes-on qs (graph s h qs p) gs hs w whole ps os v k r m todo in
@@ -126,4 +127,4 @@ module _ (s : List ℕ) (h : FileHead) (qs : List ℕ) (p : Partition s 100 (len
             (agrees qs (graph s h qs p) gs hs w whole ps os v k r m todo (x .0) (x .1) (done-all ps os v r m todo its d (x .0) (x .1) (x .2)))
             (omega (arith, less ps os v r m todo its d (x .0) (x .1) (x .2))) in
             (z .0, rw (y .1) (z .1))
-        go false t more = rest-there ps os c v k (λ i l. next-none ps (ltb-false (nextRow ps) (length ps) t) i (omega (arith, v .parts)))
+        go false t more = rest-there ps os c v k (λ i l. next-row ps .before i (omega (arith, v .parts, ltb-false (nextRow ps) (length ps) t)))

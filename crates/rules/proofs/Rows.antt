@@ -2,7 +2,7 @@
 use Prim.Native.Nat.{ℕ, zero, suc, _<_, _≤_}
 use mathlib.Core.Bool.{Bool, true, false, _||_}
 use mathlib.Core.List.{List, [], _∷_}
-use mathlib.Core.Path.{_≡_, refl, sym, ap}
+use mathlib.Core.Path.{_≡_, refl}
 use native.Mathlib.Omega.{arith}
 use borrow.Author.Tests.{eq-eqb, ne-eqb, le-leb, lt-leb, leb-true, leb-false, lt-ltb, le-ltb}
 use lib.Dec.{eqb, leb}
@@ -10,7 +10,7 @@ use lib.ListN.{length, getD}
 use Rattle.wire.specs.Check.{pick}
 use Rattle.layout.specs.declared.file.FileHead.{FileHead}
 use Rattle.rules.specs.Row.{Rising, starts, rowOf}
-use Rattle.rules.specs.Turn.{Turn, going, stop, andThen, nextRow, roundTurn, rounds}
+use Rattle.rules.specs.Turn.{going, andThen, nextRow, roundTurn, rounds}
 
 or-true : (b : Bool) → (b || true) ≡ true
 or-true true = refl
@@ -75,13 +75,6 @@ next-row (k ∷ ps) = go (leb 8 k) refl (next-row ps)
       found = λ l. r .found (omega arith);
       before = later (leb-false 8 k e) r;
     }
-
--- one turn after the other
-pub then-going : (f : List ℕ → List ℕ → ℕ → Turn) {x : Turn} {ps os : List ℕ} {c : ℕ} → going ps os c ≡ x → andThen f x ≡ f ps os c
-then-going f e = ap (andThen f) (sym e)
-
-pub then-stop : (f : List ℕ → List ℕ → ℕ → Turn) {x : Turn} {n p : ℕ} → stop n p ≡ x → andThen f x ≡ stop n p
-then-stop f e = ap (andThen f) (sym e)
 
 -- no directory is left, or one is taken
 module _ (s : List ℕ) (h : FileHead) (qs : List ℕ) (n : ℕ) (ps os : List ℕ) (c : ℕ) where

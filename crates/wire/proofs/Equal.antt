@@ -66,11 +66,6 @@ same-eq (x ∷ a) = rw (eq-eqb x x refl) (same-eq a)
 digit : (x y c d : ℕ) → c ≤ 255 → d ≤ 255 → x * 256 + c ≡ y * 256 + d → (x ≡ y) × (c ≡ d)
 digit x y c d l m e = omega arith
 
-abbrev Four : List ℕ → List ℕ → ℕ → Type 0
-Four a b i =
-    (getD a i 0 ≡ getD b i 0)
-    × ((getD a (i + 1) 0 ≡ getD b (i + 1) 0) × ((getD a (i + 2) 0 ≡ getD b (i + 2) 0) × (getD a (i + 3) 0 ≡ getD b (i + 3) 0)))
-
 four : (p q r s t u v w : ℕ) → q ≤ 255 → r ≤ 255 → s ≤ 255 → u ≤ 255 → v ≤ 255 → w ≤ 255
     → p * 16777216 + q * 65536 + r * 256 + s ≡ t * 16777216 + u * 65536 + v * 256 + w → (p ≡ t) × ((q ≡ u) × ((r ≡ v) × (s ≡ w)))
 four p q r s t u v w a b c d e f g =

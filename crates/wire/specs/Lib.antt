@@ -2,6 +2,8 @@ pub mod Answer
 pub mod Check
 pub mod Date
 pub mod Equal
+pub mod Layout
+pub mod Lent
 pub mod Name
 pub mod Number
 pub mod Patch

@@ -1,5 +1,8 @@
 // What records are made of: big-endian numbers, counted strings, packed dates. Every public function takes any
 // input and has no precondition.
+ghost use mathlib.Core.Path.{_≡_};
+ghost use Rattle.wire.specs.Answer.{done, refusal};
+
 pub mod date;
 pub mod number;
 pub mod text;
@@ -9,4 +12,26 @@ pub struct Answer {
     pub number: u64,
     pub place: u64,
     pub count: u64,
+}
+
+// A success: 0, 0 and a count.
+pub fn finished(count: u64) -> Answer
+    ensures { λ r. ⌜ r ≡ done count ⌝ }
+{
+    Answer {
+        number: 0,
+        place: 0,
+        count,
+    }
+}
+
+// A refusal: its number and place, with count 0.
+pub fn refused(number: u64, place: u64) -> Answer
+    ensures { λ r. ⌜ r ≡ refusal number place ⌝ }
+{
+    Answer {
+        number,
+        place,
+        count: 0,
+    }
 }

@@ -1,0 +1,65 @@
+use native.Mathlib.Omega.{arith}
+use borrow.Author.Needs.{needs}
+use Prim.Native.Nat.{_-_}
+use lib.ListN.{length}
+use Rattle.table.proofs.Tables.{Clearing, clear-began, clear-none, clear-kept, clear-again, clear-ended}
+use Rattle.table.proofs.clear.Statement.{statement}
+use Rattle.table.proofs.clear.Tie as tie
+
+abbrev Inv-loop : tie.InvT-loop
+Inv-loop table₀ from i₀ table i = Clearing table₀ table from i
+
+abbrev μ-loop : tie.MeasureT-loop
+μ-loop table₀ from i₀ table i = length table₀ - i
+
+-- src/lib.rt:19:9
+returns : tie.Need-returns Inv-loop μ-loop
+returns c = clear-none _ _ (c .if1 .taken)
+
+-- src/lib.rt:22:5
+loop-holds : tie.Need-loop-holds Inv-loop μ-loop
+loop-holds c = clear-began _ _ (omega arith)
+
+-- src/lib.rt:23:9
+mul-table : tie.Need-mul-table Inv-loop μ-loop
+mul-table c = search needs
+
+-- src/lib.rt:23:9
+slice-write-table : tie.Need-slice-write-table Inv-loop μ-loop
+slice-write-table c = search needs
+
+-- src/lib.rt:24:9
+add-i : tie.Need-add-i Inv-loop μ-loop
+add-i c = search needs
+
+-- src/lib.rt:22:5
+loop-less : tie.Need-loop-less Inv-loop μ-loop
+loop-less c = let k = clear-kept (c .before .loop .inv) in omega arith
+
+-- src/lib.rt:22:5
+loop-again : tie.Need-loop-again Inv-loop μ-loop
+loop-again c = clear-again (c .before .loop .inv) (c .loop-test .taken)
+
+-- src/lib.rt:15:1
+same-length : tie.Need-same-length Inv-loop μ-loop
+same-length c = clear-kept (c .before .loop .inv)
+
+-- src/lib.rt:15:1
+returns-2 : tie.Need-returns-2 Inv-loop μ-loop
+returns-2 c = clear-ended (c .before .loop .inv) (c .loop-test .left)
+
+pub clear-spec : {M : Type 1} → statement M
+clear-spec =
+    tie.close
+    (tie.spec
+    Inv-loop
+    μ-loop
+    returns
+    loop-holds
+    mul-table
+    slice-write-table
+    add-i
+    loop-less
+    loop-again
+    same-length
+    returns-2)

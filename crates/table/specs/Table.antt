@@ -1,0 +1,12 @@
+-- Lent tables: document 01, "row i describes piece i in file order and later entries are 0".
+use Prim.Native.Nat.{ℕ, _-_}
+use mathlib.Core.List.{List, _++_}
+use lib.ListN.{length, take, replicate}
+
+-- a table of n entries: the rows, then zeros to its end
+abbrev pub filled : List ℕ → ℕ → List ℕ
+filled xs n = xs ++ replicate (n - length xs) 0
+
+-- the table t with zeros from an entry on
+abbrev pub cleared : List ℕ → ℕ → List ℕ
+cleared t from = filled (take from t) (length t)

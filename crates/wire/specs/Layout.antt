@@ -1,0 +1,32 @@
+-- Formats of big-endian numbers, one after the other: a layout is the list of their widths in bytes, and every place follows from
+-- the widths.
+use Prim.Native.Nat.{ℕ, _+_, _^_, _<_}
+use mathlib.Core.List.{List, [], _∷_, _++_}
+use Rattle.wire.specs.Number.{numAt, beBytes}
+
+-- the width of an offset in a file: document 01, "only four-byte offsets are taken at first"
+abbrev pub offsetWidth : ℕ
+offsetWidth = 4
+
+-- the bytes that a layout takes
+abbrev pub extent : List ℕ → ℕ
+extent [] = 0
+extent (w ∷ ws) = w + extent ws
+
+-- the numbers that stand from p on
+abbrev pub valuesAt : List ℕ → List ℕ → ℕ → List ℕ
+valuesAt [] s p = []
+valuesAt (w ∷ ws) s p = numAt w s p ∷ valuesAt ws s (p + w)
+
+-- the bytes of numbers; one that is missing is 0
+abbrev pub valueBytes : List ℕ → List ℕ → List ℕ
+valueBytes [] vs = []
+valueBytes (w ∷ ws) [] = beBytes w 0 ++ valueBytes ws []
+valueBytes (w ∷ ws) (v ∷ vs) = beBytes w v ++ valueBytes ws vs
+
+-- as many numbers as widths, each within its width
+abbrev pub Fit : List ℕ → List ℕ → Type 0
+Fit [] [] = Unit
+Fit [] (v ∷ vs) = ⊥
+Fit (w ∷ ws) [] = ⊥
+Fit (w ∷ ws) (v ∷ vs) = (v < 256 ^ w) × Fit ws vs
