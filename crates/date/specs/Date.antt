@@ -1,10 +1,10 @@
 -- Packed dates: document 01, "Key headers", Datime.
 use Prim.Native.Nat.{ℕ, _+_, _-_, _*_, _/_, _%_}
 use mathlib.Core.List.{List, [], _∷_}
 use Rattle.wire.specs.Answer.{done, refusal}
 use Rattle.wire.specs.Check.{Check, le, all, pick}
 use Rattle.wire.specs.declared.Answer.{Answer}
-use Rattle.wire.specs.declared.date.Date.{Date}
+use Rattle.date.specs.declared.Date.{Date}
 
 -- (year−1995)·2^26 + month·2^22 + day·2^17 + hour·2^12 + minute·2^6 + second
 unfoldable pub packed : Date → ℕ

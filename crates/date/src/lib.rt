@@ -1,7 +1,9 @@
-// Packed dates (document 000, Datime).
+// Packed dates (document 000, Datime). Every public function takes any input and has no precondition.
 ghost use mathlib.Core.Path.{_≡_};
-ghost use Rattle.wire.specs.Date.{packAnswer, unpacked};
-use crate::Answer;
+ghost use Rattle.date.specs.Date.{packAnswer, unpacked};
+use wire::Answer;
+use wire::finished;
+use wire::refused;
 
 pub struct Date {
     pub year: u32,
@@ -10,16 +12,6 @@ pub struct Date {
     pub hour: u32,
     pub minute: u32,
     pub second: u32,
-}
-
-fn out_of_range() -> Answer
-    ensures { λ r. ⌜ (r .number ≡ 18) × (r .place ≡ 0) × (r .count ≡ 0) ⌝ }
-{
-    Answer {
-        number: 18,
-        place: 0,
-        count: 0,
-    }
 }
 
 // The 32 bits of a date; 18 for a field out of its range.
@@ -33,25 +25,25 @@ pub fn pack_date(d: Date) -> Answer
     let minute = d.minute;
     let second = d.second;
     if year < 1995 {
-        return out_of_range();
+        return refused(18, 0);
     }
     if 2058 < year {
-        return out_of_range();
+        return refused(18, 0);
     }
     if 15 < month {
-        return out_of_range();
+        return refused(18, 0);
     }
     if 31 < day {
-        return out_of_range();
+        return refused(18, 0);
     }
     if 31 < hour {
-        return out_of_range();
+        return refused(18, 0);
     }
     if 63 < minute {
-        return out_of_range();
+        return refused(18, 0);
     }
     if 63 < second {
-        return out_of_range();
+        return refused(18, 0);
     }
     let packed = (year - 1995) * 67108864
         + month * 4194304
@@ -59,11 +51,7 @@ pub fn pack_date(d: Date) -> Answer
         + hour * 4096
         + minute * 64
         + second;
-    Answer {
-        number: 0,
-        place: 0,
-        count: packed as u64,
-    }
+    finished(packed as u64)
 }
 
 // The six fields of any 32 bits.

@@ -1,8 +1,8 @@
 use mathlib.Core.Path.{refl}
-use Rattle.wire.specs.Date.{unpacked}
+use Rattle.date.specs.Date.{unpacked}
 use borrow.Author.Needs.{needs}
-use Rattle.wire.proofs.date.unpack_date.Statement.{statement}
-use Rattle.wire.proofs.date.unpack_date.Tie as tie
+use Rattle.date.proofs.unpack_date.Statement.{statement}
+use Rattle.date.proofs.unpack_date.Tie as tie
 
 add-t3 : tie.Need-add-t3
 add-t3 c = search needs

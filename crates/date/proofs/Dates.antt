@@ -1,18 +1,14 @@
 -- Packing and unpacking a date undo each other.
 use Prim.Native.Nat.{ℕ, _+_, _-_, _*_, _/_, _%_, _<_}
-use mathlib.Core.Path.{_≡_, refl, sym, _∙_}
+use mathlib.Core.Path.{_≡_, sym, ap, _∙_}
 use native.Mathlib.Nat.{div-div-eq-div-mul, div-add-mod'}
 use native.Mathlib.Omega.{arith}
-use Rattle.wire.specs.Answer.{done}
+use Rattle.wire.specs.Answer.{done, refusal}
 use Rattle.wire.specs.Check.{All}
-use Rattle.wire.specs.Date.{packed, dateFits, packAnswer, unpacked}
+use Rattle.date.specs.Date.{packed, dateFits, packAnswer, unpacked}
 use Rattle.wire.specs.declared.Answer.{Answer}
-use Rattle.wire.specs.declared.date.Date.{Date}
+use Rattle.date.specs.declared.Date.{Date}
 use Rattle.wire.proofs.Checks.{picked, not-picked}
-
--- two answers with the same parts
-pub same-answer : {a b : Answer} → a .number ≡ b .number → a .place ≡ b .place → a .count ≡ b .count → a ≡ b
-same-answer n p c = λ i. record { number = n i; place = p i; count = c i }
 
 -- two dates with the same fields
 record Same (d e : Date) : Type 0 where
@@ -33,13 +29,13 @@ same h = λ i. record {
   second = h .second i;
 }
 
-pub refused : (d : Date) {a : Answer} → (a .number ≡ 18) × (a .place ≡ 0) × (a .count ≡ 0) → (All (dateFits d) → ⊥) → a ≡ packAnswer d
+pub out-of-range : (d : Date) {a : Answer} → a ≡ refusal 18 0 → (All (dateFits d) → ⊥) → a ≡ packAnswer d
 unfolding packAnswer
-refused d e h = same-answer (e .0) (e .1) (e .2) ∙ sym (not-picked (dateFits d) _ _ h)
+out-of-range d e h = e ∙ sym (not-picked (dateFits d) _ _ h)
 
-pub taken : (d : Date) {a : Answer} → (a .number ≡ 0) × (a .place ≡ 0) × (a .count ≡ packed d) → All (dateFits d) → a ≡ packAnswer d
+pub taken : (d : Date) {a : Answer} → a ≡ done (packed d) → All (dateFits d) → a ≡ packAnswer d
 unfolding packAnswer
-taken d e h = same-answer (e .0) (e .1) (e .2) ∙ sym (picked (dateFits d) _ _ h)
+taken d e h = e ∙ sym (picked (dateFits d) _ _ h)
 
 -- unpacking what was packed gives the six fields
 pub unpack-pack : (d : Date) → All (dateFits d) → unpacked (packed d) ≡ d
@@ -72,4 +68,4 @@ pub pack-unpack : (v : ℕ) → v < 4294967296 → packAnswer (unpacked v) ≡ d
 unfolding unpacked packed
 pack-unpack v h =
     let e = digits v _ _ _ _ _ _ _ _ _ _ (div-add-mod' v 64) (digit v 64 64) (digit v 4096 32) (digit v 131072 32) (digit v 4194304 16) in
-    sym (taken (unpacked v) (refl, refl, e) (unpacked-fits v h))
+    sym (taken (unpacked v) (ap done e) (unpacked-fits v h))
