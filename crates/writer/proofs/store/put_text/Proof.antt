@@ -3,9 +3,10 @@ use native.Mathlib.Omega.{arith}
 use Prim.Native.Nat.{_-_}
 use mathlib.Core.Path.{_∙_}
 use lib.ListN.{length, length-set}
-use Rattle.key.proofs.Copies.{Copying, copy-began, copy-length, copy-turn, copy-ended, text-whole}
-use Rattle.key.proofs.store.put_text.Statement.{statement}
-use Rattle.key.proofs.store.put_text.Tie as tie
+use Rattle.wire.specs.Text.{textSize}
+use Rattle.writer.proofs.Stores.{Copying, copy-began, copy-length, copy-turn, copy-ended, text-whole}
+use Rattle.writer.proofs.store.put_text.Statement.{statement}
+use Rattle.writer.proofs.store.put_text.Tie as tie
 
 abbrev Inv-loop : tie.InvT-loop
 Inv-loop part₀ t i₀ part i = Copying part₀ t part i
@@ -17,9 +18,11 @@ cast-part : tie.Need-cast-part Inv-loop μ-loop
 cast-part c = search needs
 
 slice-write-part : tie.Need-slice-write-part Inv-loop μ-loop
+unfolding textSize
 slice-write-part c = search needs
 
 loop-holds : tie.Need-loop-holds Inv-loop μ-loop
+unfolding textSize
 loop-holds c = copy-began _ _ (rw length-set (omega arith))
 
 shared-slice-read-part : tie.Need-shared-slice-read-part Inv-loop μ-loop
@@ -44,6 +47,7 @@ same-length : tie.Need-same-length Inv-loop μ-loop
 same-length c = copy-length (c .before .loop .inv) ∙ simp length-set
 
 returns : tie.Need-returns Inv-loop μ-loop
+unfolding textSize
 returns c = copy-ended (c .before .loop .inv) (omega arith) ∙ text-whole _ _ (omega arith)
 
 pub put-text-spec : {M : Type 1} → statement M
