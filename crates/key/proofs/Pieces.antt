@@ -154,8 +154,8 @@ module _ (s : List ℕ) (p : ℕ) where
       go (no-size h) = refl
       go (no-key h i) = refl
 
-  pub refused-as : {c q : ℕ} → pieceAt s p ≡ Refused c q → (c ≡ 5) ⊎ (c ≡ 6)
-  refused-as e = go (viewed e)
+  pub refused-number : {c q : ℕ} → pieceAt s p ≡ Refused c q → (c ≡ 5) ⊎ (c ≡ 6)
+  refused-number e = go (viewed e)
     where
       go : {c q : ℕ} → View (Refused c q) → (c ≡ 5) ⊎ (c ≡ 6)
       go (no-size h) = inl refl
