@@ -149,6 +149,7 @@ module _ (s : List ℕ) (p end : ℕ) where
   pub record Formed (k : Key) : Type 0 where
     pub is : k ≡ keyAt s p (namesOf k)
     pub strings : Strings s p end (namesOf k)
+    pub sum : k .title .next ≡ p + sumOf k
     pub fits : All (wellFormed k)
 
   pub from-good : {k : Key} → Good k ≡ headerIn s p end → Formed k
@@ -159,12 +160,10 @@ module _ (s : List ℕ) (p end : ℕ) where
       go (Held n) i e =
           let f = from-picked (wellFormed (keyAt s p n)) (Good (keyAt s p n)) Bad e (λ j. let z : _≡_ {A = ℕ} 0 1 = cc in omega arith) in
           let g : k ≡ keyAt s p n = let h = f .0 in cc in
-          rw g (record { is = refl; strings = strings i; fits = f .1 })
+          rw g (record { is = refl; strings = strings i; sum = strings i .sum; fits = f .1 })
       go Cut i e = let z : _≡_ {A = ℕ} 0 1 = cc in absurd (omega arith)
 
   -- its strings end at the sum, before the end, and in the file
   pub header-lies : {k : Key} → Good k ≡ headerIn s p end
       → (k .title .next ≡ p + sumOf k) × (k .title .next ≤ end) × (end ≤ length s)
-  header-lies {k} e =
-      let f = from-good e in
-      (f .strings .sum ∙ ap (λ (l : Key). p + sumOf l) (sym (f .is)), f .strings .title .fits, f .strings .title .room)
+  header-lies e = let f = from-good e in (f .sum, f .strings .title .fits, f .strings .title .room)
