@@ -1,34 +1,45 @@
--- Key headers: what the reader answers, from facts.
-use Prim.Native.Nat.{ℕ, _+_, _<_, _≤_}
+-- Key headers: what the reader answers, from facts, and back.
+use Prim.Native.Nat.{ℕ, _+_, _-_, _≤_}
+use mathlib.Core.Bool.{Bool, true, false, not}
 use mathlib.Core.List.{List}
-use mathlib.Core.Path.{_≡_, sym, ap, _∙_}
+use mathlib.Core.Path.{_≡_, refl, sym, ap, _∙_}
 use native.Mathlib.Omega.{arith}
 use lib.ListN.{length}
-use Rattle.wire.specs.Check.{All}
-use Rattle.wire.specs.Text.{textAt}
-use Rattle.key.specs.Header.{keyAt, namesAt, namesIn, sumOf, headerFits, headerIn}
+use Rattle.wire.specs.Check.{All, all, pick}
+use Rattle.wire.specs.Layout.{offsetWidth, valuesAt}
+use Rattle.wire.specs.Number.{numAt, signedOf}
+use Rattle.key.specs.Header.{keyLayout, fixedPart, keyFrom, keyAt, namesIn, sumOf, limits, inLimits, wellFormed, formed, onNames, headerIn}
 use Rattle.key.specs.declared.header.Key.{Key}
 use Rattle.key.specs.declared.header.Names.{Names}
+use Rattle.key.specs.declared.header.Named.{Named}
 use Rattle.key.specs.declared.header.Named.the-variants.{Held, Cut}
+use Rattle.key.specs.declared.header.Header.{Header}
 use Rattle.key.specs.declared.header.Header.the-variants.{Good, Bad}
-use Rattle.wire.proofs.Checks.{picked, not-picked, from-picked, from-not-picked}
-use Rattle.key.proofs.Names.{from-names, from-no-names}
+use Rattle.wire.proofs.Checks.{yes-all, all-yes, not-all, from-picked, false-true}
+use Rattle.wire.proofs.Texts.{Stands, stands, none-left}
+use Rattle.key.proofs.Names.{no-class, from-names}
 
--- the strings end where the sum does
-pub sum-next : (s : List ℕ) (p : ℕ) → keyAt s p .title .next ≡ p + sumOf (keyAt s p)
-unfolding keyAt namesAt textAt
-sum-next s p = omega arith
+-- where the numbers of a header at p stand, over the width of an offset
+pub record Placed (w : ℕ) (s : List ℕ) (p : ℕ) (k : Key) : Type 0 where
+  pub nbytes : k .nbytes ≡ numAt 4 s p
+  pub version : k .version ≡ numAt 2 s (p + 4)
+  pub objlen : k .objlen ≡ numAt 4 s (p + 6)
+  pub datime : k .datime ≡ numAt 4 s (p + 10)
+  pub keylen : k .keylen ≡ numAt 2 s (p + 14)
+  pub cycle : k .cycle ≡ signedOf 2 (numAt 2 s (p + 16))
+  pub seekkey : k .seekkey ≡ numAt w s (p + 18)
+  pub seekpdir : k .seekpdir ≡ numAt w s (p + (18 + w))
 
--- the strings n of the header at p, as read within end
-pub record Strings (s : List ℕ) (p end : ℕ) (n : Names) : Type 0 where
-  pub is : n ≡ namesAt s (p + 26)
-  pub room : end ≤ length s
-  pub next : n .title .next ≡ keyAt s p .title .next
-  pub class : keyAt s p .class .len < 255
-  pub name : keyAt s p .name .len < 255
-  pub title : keyAt s p .title .len < 255
-  pub sum : keyAt s p .title .next ≡ p + sumOf (keyAt s p)
-  pub fits : keyAt s p .title .next ≤ end
+pub placed : (w : ℕ) (s : List ℕ) (p : ℕ) (n : Names) → Placed w s p (keyFrom (valuesAt (keyLayout w) s p) n)
+placed w s p n =
+    let a : p + 4 + 2 ≡ p + 6 = omega arith in
+    let b : p + 6 + 4 ≡ p + 10 = omega arith in
+    let c : p + 10 + 4 ≡ p + 14 = omega arith in
+    let d : p + 14 + 2 ≡ p + 16 = omega arith in
+    let e : p + 16 + 2 ≡ p + 18 = omega arith in
+    let f : p + 18 + w ≡ p + (18 + w) = omega arith in
+    rw (a, b, c, d, e, f)
+    (record { nbytes = refl; version = refl; objlen = refl; datime = refl; keylen = refl; cycle = refl; seekkey = refl; seekpdir = refl })
 
 -- two headers with the same fields
 pub record Same (k l : Key) : Type 0 where
@@ -59,39 +70,100 @@ same e = λ i. record {
   title = e .title i;
 }
 
+-- numbers within the limits, or not
+module _ {nbytes version objlen keylen sum : ℕ} where
+  pub within : All (limits nbytes version objlen keylen sum) → true ≡ inLimits nbytes version objlen keylen sum
+  unfolding inLimits
+  within h = sym (yes-all (limits nbytes version objlen keylen sum) h)
+
+  pub not-within : (All (limits nbytes version objlen keylen sum) → ⊥) → false ≡ inLimits nbytes version objlen keylen sum
+  unfolding inLimits
+  not-within h = sym (not-all (limits nbytes version objlen keylen sum) h)
+
+  -- as `if !is_formed(..)` knows it
+  pub from-within : (b : Bool) → b ≡ inLimits nbytes version objlen keylen sum → not b ≡ false
+      → All (limits nbytes version objlen keylen sum)
+  unfolding inLimits
+  from-within true e h = all-yes (limits nbytes version objlen keylen sum) (sym e)
+  from-within false e h = false-true (sym h)
+
+  pub from-not-within : (b : Bool) → b ≡ inLimits nbytes version objlen keylen sum → not b ≡ true
+      → All (limits nbytes version objlen keylen sum) → ⊥
+  unfolding inLimits
+  from-not-within true e h l = false-true h
+  from-not-within false e h l = false-true (e ∙ yes-all (limits nbytes version objlen keylen sum) l)
+
+-- the strings n of the header at p, as read within end: they end where the sum does
+pub record Strings (s : List ℕ) (p end : ℕ) (n : Names) : Type 0 where
+  pub read : Held n ≡ namesIn s (p + fixedPart offsetWidth) end
+  pub class : Stands s (p + fixedPart offsetWidth) end (n .class)
+  pub name : Stands s (n .class .next) end (n .name)
+  pub title : Stands s (n .name .next) end (n .title)
+  pub sum : n .title .next ≡ p + sumOf (keyAt s p n)
+
+-- the strings of a key
+abbrev pub namesOf : Key → Names
+namesOf k = record { class = k .class; name = k .name; title = k .title }
+
 module _ (s : List ℕ) (p end : ℕ) where
-  pub is-bad : (All (headerFits s p end) → ⊥) → Bad ≡ headerIn s p end
-  unfolding headerIn
-  is-bad h = sym (not-picked (headerFits s p end) _ _ h)
-
-  pub is-good : {k : Key} → Same k (keyAt s p) → All (headerFits s p end) → Good k ≡ headerIn s p end
-  unfolding headerIn
-  is-good e h = ap Good (same e) ∙ sym (picked (headerFits s p end) _ _ h)
-
-  pub strings : {n : Names} → Held n ≡ namesIn s (p + 26) end → Strings s p end n
+  pub strings : {n : Names} → Held n ≡ namesIn s (p + fixedPart offsetWidth) end → Strings s p end n
   unfolding keyAt
-  strings {n} e =
-      let f = from-names s (p + 26) end e in
-      record {
-        is = f .0;
-        room = f .1 .0;
-        next = ap (λ (n : Names). n .title .next) (f .0);
-        class = f .1 .1 .0;
-        name = f .1 .1 .1 .0;
-        title = f .1 .1 .1 .1 .0;
-        sum = sum-next s p;
-        fits = f .1 .1 .1 .1 .1 .0;
-      }
+  strings e =
+      let f = from-names s (p + fixedPart offsetWidth) end e in
+      let a = stands s _ end (f .class) in
+      let b = stands s _ end (f .name) in
+      let c = stands s _ end (f .title) in
+      record { read = e; class = a; name = b; title = c; sum = omega arith }
 
-  pub no-strings : Cut ≡ namesIn s (p + 26) end → Bad ≡ headerIn s p end
-  unfolding keyAt
-  no-strings e = is-bad (λ h. from-no-names s (p + 26) end e (omega (arith, h)))
-
-  -- a header that was read
-  pub from-good : {k : Key} → Good k ≡ headerIn s p end → (k ≡ keyAt s p) × All (headerFits s p end)
+  pub no-strings : Cut ≡ namesIn s (p + fixedPart offsetWidth) end → Bad ≡ headerIn s p end
   unfolding headerIn
-  from-good {k} e = let f = from-picked (headerFits s p end) (Good (keyAt s p)) Bad e (λ i. let z : _≡_ {A = ℕ} 0 1 = cc in omega arith) in let g = f .0 in (cc, f .1)
+  no-strings e = ap (λ (x : Named). onNames x (λ t. formed (keyAt s p t))) e
 
-  pub from-bad : Bad ≡ headerIn s p end → All (headerFits s p end) → ⊥
-  unfolding headerIn
-  from-bad e h = from-not-picked (headerFits s p end) (Good (keyAt s p)) Bad e (λ i. let z : _≡_ {A = ℕ} 0 1 = cc in omega arith) h
+  -- no byte is left for strings
+  pub too-short : end ≤ p + fixedPart offsetWidth → Bad ≡ headerIn s p end
+  too-short l = no-strings (no-class s (p + fixedPart offsetWidth) end (none-left s (p + fixedPart offsetWidth) end l))
+
+  -- the key k of strings n that were read, and the test of its limits
+  module _ {n : Names} {k : Key} (f : Strings s p end n) (is : k ≡ keyAt s p n) where
+    header-is : headerIn s p end ≡ formed k
+    unfolding headerIn
+    header-is = ap (λ (x : Named). onNames x (λ t. formed (keyAt s p t))) (sym (f .read)) ∙ ap formed (sym is)
+
+    pub good : All (wellFormed k) → Good k ≡ headerIn s p end
+    good h = sym (header-is ∙ rw (yes-all (wellFormed k) h))
+
+    module _ {b : Bool} (e : b ≡ inLimits (k .nbytes) (k .version) (k .objlen) (k .keylen) (n .title .next - p)) where
+      tested : headerIn s p end ≡ pick b (Good k) Bad
+      unfolding inLimits
+      tested =
+          let m : n .title .next - p ≡ sumOf k = omega (arith, f .sum, ap sumOf is) in
+          header-is ∙ ap (λ (b : Bool). pick b (Good k) Bad) (sym (rw m at e))
+
+      pub is-good : b ≡ true → Good k ≡ headerIn s p end
+      is-good i = sym (tested ∙ rw i)
+
+      pub is-bad : b ≡ false → Bad ≡ headerIn s p end
+      is-bad i = sym (tested ∙ rw i)
+
+  -- what a header that was read says
+  pub record Formed (k : Key) : Type 0 where
+    pub is : k ≡ keyAt s p (namesOf k)
+    pub strings : Strings s p end (namesOf k)
+    pub sum : k .title .next ≡ p + sumOf k
+    pub fits : All (wellFormed k)
+
+  pub from-good : {k : Key} → Good k ≡ headerIn s p end → Formed k
+  unfolding headerIn keyAt
+  from-good {k} e = go (namesIn s (p + fixedPart offsetWidth) end) refl e
+    where
+      go : (x : Named) → x ≡ namesIn s (p + fixedPart offsetWidth) end → Good k ≡ onNames x (λ t. formed (keyAt s p t)) → Formed k
+      go (Held n) i e =
+          let f = from-picked (wellFormed (keyAt s p n)) (Good (keyAt s p n)) Bad e (λ j. let z : _≡_ {A = ℕ} 0 1 = cc in omega arith) in
+          let g : k ≡ keyAt s p n = let h = f .0 in cc in
+          rw g (record { is = refl; strings = strings i; sum = strings i .sum; fits = f .1 })
+      go Cut i e = let z : _≡_ {A = ℕ} 0 1 = cc in absurd (omega arith)
+
+  -- its strings end at the sum, before the end, and in the file
+  pub header-lies : {k : Key} → Good k ≡ headerIn s p end
+      → (k .title .next ≡ p + sumOf k) × (k .title .next ≤ end) × (end ≤ length s)
+  header-lies e = let f = from-good e in (f .sum, f .strings .title .fits, f .strings .title .room)

@@ -1,8 +1,4 @@
-pub mod Copies
 pub mod Headers
 pub mod Names
 pub mod Others
 pub mod Pieces
-pub mod RoundTrips
-pub mod WriteAgain
-pub mod Writes

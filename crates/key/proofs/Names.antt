@@ -1,70 +1,54 @@
--- Three strings in a row: what the reader answers, from facts, and back.
-use Prim.Native.Nat.{ℕ, _-_}
-use mathlib.Core.List.{List, [], _∷_}
-use mathlib.Core.Path.{_≡_, sym}
+-- Three strings in a row: what the reader answers, from what each gives, and back.
+use Prim.Native.Nat.{ℕ}
+use mathlib.Core.List.{List}
+use mathlib.Core.Path.{_≡_, refl, sym}
 use native.Mathlib.Omega.{arith}
-use lib.ListN.{length}
-use Rattle.wire.specs.Check.{Check, le, lt, All}
-use Rattle.wire.specs.Text.{textAt, textIn}
-use Rattle.key.specs.Header.{namesAt, namesIn}
+use Rattle.wire.specs.Text.{textIn}
+use Rattle.key.specs.Header.{onText, namesIn}
 use Rattle.wire.specs.declared.text.Text.{Text}
+use Rattle.wire.specs.declared.text.Found.{Found}
 use Rattle.wire.specs.declared.text.Found.the-variants.{Held, Cut}
 use Rattle.key.specs.declared.header.Names.{Names}
 use Rattle.key.specs.declared.header.Named.{Named}
 use Rattle.key.specs.declared.header.Named.the-variants as named
-use Rattle.wire.proofs.Checks.{picked, not-picked, from-picked, from-not-picked}
-use Rattle.wire.proofs.Texts.{from-held, from-cut}
 
--- what three strings in a row meet
-abbrev pub nameChecks : List ℕ → ℕ → ℕ → List Check
-nameChecks s p end =
-    le end (length s) ∷ lt (namesAt s p .class .len) 255 ∷ lt (namesAt s p .name .len) 255
-    ∷ lt (namesAt s p .title .len) 255 ∷ le (namesAt s p .title .next) end ∷ []
+-- names that were read go through a string that was
+from-text : {n : Names} (x : Found) (f : Text → Named) → named.Held n ≡ onText x f
+    → (t : Text) × ((Held t ≡ x) × (named.Held n ≡ f t))
+from-text (Held t) f e = (t, (refl, e))
+from-text {n} Cut f e = let z : _≡_ {A = ℕ} 0 1 = cc in absurd (omega arith)
 
 module _ (s : List ℕ) (p end : ℕ) where
-  names-cut : (All (nameChecks s p end) → ⊥) → named.Cut ≡ namesIn s p end
-  unfolding namesIn
-  names-cut h = sym (not-picked (nameChecks s p end) _ _ h)
-
-  names-held : All (nameChecks s p end) → named.Held (namesAt s p) ≡ namesIn s p end
-  unfolding namesIn
-  names-held h = sym (picked (nameChecks s p end) _ _ h)
-
   pub no-class : Cut ≡ textIn s p end → named.Cut ≡ namesIn s p end
-  unfolding namesAt textAt
-  no-class e = names-cut (λ h. from-cut s p end e (omega (arith, h)))
+  unfolding namesIn
+  no-class e = rw (sym e)
 
   pub no-name : {a : Text} → Held a ≡ textIn s p end → Cut ≡ textIn s (a .next) end → named.Cut ≡ namesIn s p end
-  unfolding namesAt textAt
-  no-name {a} d e =
-      let f = rw (from-held s p end d .0) at e in
-      names-cut (λ h. from-cut s (textAt s p .next) end f (omega (arith, h)))
+  unfolding namesIn
+  no-name d e = rw (sym d, sym e)
 
   pub no-title : {a b : Text} → Held a ≡ textIn s p end → Held b ≡ textIn s (a .next) end → Cut ≡ textIn s (b .next) end
       → named.Cut ≡ namesIn s p end
-  unfolding namesAt textAt
-  no-title {a} {b} d e f =
-      let g = rw (from-held s p end d .0) at e in
-      let i = rw (from-held s (textAt s p .next) end g .0) at f in
-      names-cut (λ h. from-cut s (textAt s (textAt s p .next) .next) end i (omega (arith, h)))
+  unfolding namesIn
+  no-title d e f = rw (sym d, sym e, sym f)
 
   pub all-names : {a b d : Text} → Held a ≡ textIn s p end → Held b ≡ textIn s (a .next) end → Held d ≡ textIn s (b .next) end
       → _≡_ {A = Named} (named.Held (record { class = a; name = b; title = d })) (namesIn s p end)
-  unfolding namesAt textAt
-  all-names {a} {b} {d} e f g =
-      let i = from-held s p end e in
-      let j = from-held s (textAt s p .next) end (rw (i .0) at f) in
-      let k = from-held s (textAt s (textAt s p .next) .next) end (rw (j .0) at g) in
-      rw (i .0, j .0, k .0) (names-held (omega (arith, i .1, j .1, k .1)))
+  unfolding namesIn
+  all-names e f g = rw (sym e, sym f, sym g)
 
-  -- what was read of three strings
-  pub from-names : {n : Names} → named.Held n ≡ namesIn s p end → (n ≡ namesAt s p) × All (nameChecks s p end)
+  -- what was read of three strings: each of them
+  pub record Chained (n : Names) : Type 0 where
+    pub class : Held (n .class) ≡ textIn s p end
+    pub name : Held (n .name) ≡ textIn s (n .class .next) end
+    pub title : Held (n .title) ≡ textIn s (n .name .next) end
+
+  pub from-names : {n : Names} → named.Held n ≡ namesIn s p end → Chained n
   unfolding namesIn
   from-names {n} e =
-      let f = from-picked (nameChecks s p end) (named.Held (namesAt s p)) named.Cut e (λ i. let z : _≡_ {A = ℕ} 0 1 = cc in omega arith) in
-      let g = f .0 in
-      (cc, f .1)
-
-  pub from-no-names : named.Cut ≡ namesIn s p end → All (nameChecks s p end) → ⊥
-  unfolding namesIn
-  from-no-names e h = from-not-picked (nameChecks s p end) (named.Held (namesAt s p)) named.Cut e (λ i. let z : _≡_ {A = ℕ} 0 1 = cc in omega arith) h
+      let a = from-text (textIn s p end) _ e in
+      let b = from-text (textIn s (a .0 .next) end) _ (a .1 .1) in
+      let d = from-text (textIn s (b .0 .next) end) _ (b .1 .1) in
+      let g = d .1 .1 in
+      let f : n ≡ record { class = a .0; name = b .0; title = d .0 } = cc in
+      rw f (record { class = a .1 .0; name = b .1 .0; title = d .1 .0 })

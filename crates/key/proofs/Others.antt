@@ -33,12 +33,9 @@ module _ {A : Type 0} (f : Piece → A) (s : List ℕ) (p : ℕ) {r : Piece} (e 
 
 -- a record lies in the file, and its key in the record
 pub record-there : (s : List ℕ) (p : ℕ) {k : Key} → pieceAt s p ≡ Record k → (p + k .nbytes ≤ length s) × (k .keylen ≤ k .nbytes)
-record-there s p {k} e =
+record-there s p e =
     let h = from-record s p e in
-    let f = h .fits .1 .1 .1 in
-    let a = ap (λ (k : Key). k .keylen) (h .is) in
-    let b = ap (λ (k : Key). k .nbytes) (h .is) in
-    (omega (arith, h .size, h .sized-there), omega arith)
+    (omega (arith, h .size, h .sized-there), h .header .fits .1 .1 .1 .1 .1 .0)
 
 pub record-lies : (s : List ℕ) (p : ℕ) {r : Piece} {k : Key} → (r ≡ pieceAt s p) × (answerOf r ≡ pieceAnswer s p) → r ≡ Record k
     → (p + k .nbytes ≤ length s) × (k .keylen ≤ k .nbytes)

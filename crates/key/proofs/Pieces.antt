@@ -2,22 +2,25 @@
 use Prim.Native.Nat.{ℕ, _+_, _≤_, _<_, _-_}
 use mathlib.Core.List.{List}
 use mathlib.Core.Bool.{Bool, true, false}
-use mathlib.Core.Logic.{⊎-elim}
+use mathlib.Core.Logic.{_⊎_, inl, inr, ⊎-elim}
 use mathlib.Core.Path.{_≡_, refl, sym, ap, _∙_}
 use native.Mathlib.Omega.{arith}
-use borrow.Author.Tests.{lt-ltb, le-ltb}
-use Rattle.wire.specs.Answer.{done}
+use borrow.Author.Tests.{lt-ltb, le-ltb, eq-eqb, ne-eqb, eqb-true}
+use lib.Dec.{eqb}
 use Rattle.wire.specs.Check.{all, All, pick}
 use Rattle.wire.specs.Number.{numAt, signedOf}
-use Rattle.key.specs.Header.{keyAt, headerIn}
+use Rattle.key.specs.Header.{headerIn}
+use Rattle.key.specs.declared.header.Header.{Header}
 use lib.ListN.{length}
-use Rattle.key.specs.Piece.{sizeAt, recordThere, sized, recordFits, pieceAt, answerOf, pieceAnswer, sizeOf}
+use Rattle.key.specs.Piece.{sizeAt, recordThere, sized, recordOf, pieceAt, answerOf, pieceAnswer, sizeOf}
 use Rattle.key.specs.declared.header.Key.{Key}
 use Rattle.key.specs.declared.header.Header.the-variants.{Good, Bad}
 use Rattle.key.specs.declared.piece.Piece.{Piece}
 use Rattle.key.specs.declared.piece.Piece.the-variants.{Record, Gap, Refused}
 use Rattle.wire.proofs.Checks.{yes-all, not-all, all-or, below-or}
-use Rattle.key.proofs.Headers.{from-good, from-bad}
+use Rattle.wire.specs.Layout.{offsetWidth}
+use Rattle.key.specs.Header.{keyAt}
+use Rattle.key.proofs.Headers.{Formed, namesOf, placed, from-good}
 
 module _ (s : List ℕ) (p : ℕ) where
   -- a number below 2^31 gives a record, any other a gap
@@ -41,17 +44,22 @@ module _ (s : List ℕ) (p : ℕ) where
   abbrev pub Answered : Piece → Type 0
   Answered r = (r ≡ pieceAt s p) × (answerOf r ≡ pieceAnswer s p)
 
+  answered : {r : Piece} → r ≡ pieceAt s p → Answered r
+  unfolding pieceAnswer
+  answered e = (e, ap answerOf e)
+
   pub no-piece : (All (sized s p) → ⊥) → Answered (Refused 5 p)
-  unfolding pieceAt pieceAnswer
-  no-piece h = let e = not-all (sized s p) h in (rw e, rw e)
+  unfolding pieceAt
+  no-piece h = answered (rw (not-all (sized s p) h))
 
   pub gap-there : 2147483648 ≤ numAt 4 s p → All (sized s p) → {n : ℕ} → n ≡ sizeAt s p → Answered (Gap n)
-  unfolding pieceAt pieceAnswer
-  gap-there l h e = let f = yes-all (sized s p) h in let g = is-gap l in (rw (f, g) (ap Gap e), rw (f, g) (ap done e))
+  unfolding pieceAt
+  gap-there l h e = answered (rw (yes-all (sized s p) h, is-gap l) (ap Gap e))
 
-  bad-record : numAt 4 s p < 2147483648 → All (sized s p) → (All (recordFits s p) → ⊥) → Answered (Refused 6 p)
-  unfolding pieceAt pieceAnswer
-  bad-record l h b = let f = yes-all (sized s p) h in let g = is-record l in let e = not-all (recordFits s p) b in (rw (f, g, e), rw (f, g, e))
+  -- what a header at p answers
+  header-read : numAt 4 s p < 2147483648 → All (sized s p) → (x : Header) → x ≡ headerIn s p (p + sizeAt s p) → recordOf p x ≡ pieceAt s p
+  unfolding pieceAt
+  header-read l h x e = rw (yes-all (sized s p) h, is-record l) (ap (recordOf p) e)
 
   -- a record of n bytes, by its header
   module _ (n : ℕ) (is : n ≡ numAt 4 s p) (l : n < 2147483648) (h : All (sized s p)) where
@@ -62,43 +70,27 @@ module _ (s : List ℕ) (p : ℕ) where
     size = omega (arith, size-plus low)
 
     pub bad-header : Bad ≡ headerIn s p (p + n) → Answered (Refused 6 p)
-    bad-header e = bad-record low h (λ f. from-bad s p (p + sizeAt s p) (rw size at e) (f .1))
+    bad-header e = answered (header-read low h Bad (rw size at e))
 
     pub other-seek : {k : Key} → Good k ≡ headerIn s p (p + n) → (k .seekkey ≡ p → ⊥) → Answered (Refused 6 p)
-    other-seek e d = bad-record low h (λ f. d (ap (λ (k : Key). k .seekkey) (from-good s p (p + n) e .0) ∙ f .0))
-
-    count : {k : Key} → k ≡ keyAt s p → k .nbytes ≡ sizeAt s p
-    unfolding keyAt
-    count i = ap (λ (k : Key). k .nbytes) i ∙ sym (size-plus low)
+    other-seek {k} e d = answered (rw (ne-eqb (k .seekkey) p d) at (header-read low h (Good k) (rw size at e)))
 
     pub record-there : {k : Key} → Good k ≡ headerIn s p (p + n) → k .seekkey ≡ p → Answered (Record k)
-    unfolding pieceAt pieceAnswer
-    record-there {k} e d =
-        let g = from-good s p (p + n) e in
-        let f : All (recordFits s p) = (ap (λ (k : Key). k .seekkey) (sym (g .0)) ∙ d, (rw size at (g .1))) in
-        let a = yes-all (sized s p) h in
-        let b = is-record low in
-        let c = yes-all (recordFits s p) f in
-        (rw (a, b, c) (ap Record (g .0)), rw (a, b, c) (ap done (count (g .0))))
+    record-there {k} e d = answered (rw (eq-eqb (k .seekkey) p d) at (header-read low h (Good k) (rw size at e)))
 
   -- what a record at p says of the file
   pub record Recorded (k : Key) : Type 0 where
-    pub is : k ≡ keyAt s p
     pub sized-there : All (sized s p)
     pub size : sizeAt s p ≡ k .nbytes
-    pub fits : All (recordFits s p)
+    pub place : k .seekkey ≡ p
+    pub header : Formed s p (p + sizeAt s p) k
 
-  record-cases : {k : Key} (b : Bool) → recordThere s p ≡ b
-      → pick b (pick (all (recordFits s p)) (Record (keyAt s p)) (Refused 6 p)) (Gap (sizeAt s p)) ≡ Record k
-      → (recordThere s p ≡ true) × (k ≡ keyAt s p) × All (recordFits s p)
-  record-cases {k} true e h =
-      ⊎-elim (λ (f : All (recordFits s p)). let g = rw (yes-all (recordFits s p) f) at h in (e, cc, f))
-      (λ (f : All (recordFits s p) → ⊥).
-      let g = rw (not-all (recordFits s p) f) at h in
-      let z : _≡_ {A = ℕ} 0 1 = cc in
-      absurd (omega arith))
-      (all-or (recordFits s p))
-  record-cases {k} false e h = let z : _≡_ {A = ℕ} 0 1 = cc in absurd (omega arith)
+  -- the piece at p, by cases
+  pub data View : Piece → Type 0 where
+    no-size : (All (sized s p) → ⊥) → View (Refused 5 p)
+    no-key : All (sized s p) → recordThere s p ≡ true → View (Refused 6 p)
+    a-record : {k : Key} → Recorded k → View (Record k)
+    a-gap : All (sized s p) → recordThere s p ≡ false → View (Gap (sizeAt s p))
 
   -- a number that gives a record gives its size
   plus-size : recordThere s p ≡ true → sizeAt s p ≡ numAt 4 s p
@@ -107,65 +99,67 @@ module _ (s : List ℕ) (p : ℕ) where
       (λ (l : 2147483648 ≤ numAt 4 s p). let g = sym e ∙ is-gap l in let z : _≡_ {A = ℕ} 0 1 = cc in absurd (omega arith))
       (below-or (numAt 4 s p) 2147483648)
 
-  pub from-record : {k : Key} → pieceAt s p ≡ Record k → Recorded k
-  unfolding pieceAt keyAt
-  from-record {k} e =
-      ⊎-elim
-      (λ (h : All (sized s p)).
-      let f = record-cases (recordThere s p) refl (rw (yes-all (sized s p) h) at e) in
-      record { is = f .1; sized-there = h; size = plus-size (f .0) ∙ sym (ap (λ (k : Key). k .nbytes) (f .1)); fits = f .2 })
-      (λ (h : All (sized s p) → ⊥).
-      let f = rw (not-all (sized s p) h) at e in
-      let z : _≡_ {A = ℕ} 0 1 = cc in
-      absurd (omega arith))
-      (all-or (sized s p))
+  view-header : All (sized s p) → recordThere s p ≡ true → (x : Header) → x ≡ headerIn s p (p + sizeAt s p) → View (recordOf p x)
+  unfolding keyAt
+  view-header h e (Good k) i = go (eqb (k .seekkey) p) refl
+    where
+      go : (b : Bool) → eqb (k .seekkey) p ≡ b → View (pick b (Record k) (Refused 6 p))
+      go true j =
+          let g = from-good s p (p + sizeAt s p) i in
+          let n : k .nbytes ≡ numAt 4 s p = ap (λ (k : Key). k .nbytes) (g .is) ∙ placed offsetWidth s p (namesOf k) .nbytes in
+          a-record (record { sized-there = h; size = plus-size e ∙ sym n; place = eqb-true (k .seekkey) p j; header = g })
+      go false j = no-key h e
+  view-header h e Bad i = no-key h e
 
-  gap-cases : {n : ℕ} (b : Bool) → pick b (pick (all (recordFits s p)) (Record (keyAt s p)) (Refused 6 p)) (Gap (sizeAt s p)) ≡ Gap n
-      → sizeAt s p ≡ n
-  gap-cases {n} true h =
-      ⊎-elim
-      (λ (f : All (recordFits s p)).
-      let g = rw (yes-all (recordFits s p) f) at h in
-      let z : _≡_ {A = ℕ} 0 1 = cc in
-      absurd (omega arith))
-      (λ (f : All (recordFits s p) → ⊥).
-      let g = rw (not-all (recordFits s p) f) at h in
-      let z : _≡_ {A = ℕ} 0 1 = cc in
-      absurd (omega arith))
-      (all-or (recordFits s p))
-  gap-cases {n} false h = cc
+  pub view : View (pieceAt s p)
+  unfolding pieceAt
+  view =
+      ⊎-elim (λ (h : All (sized s p)). rw (yes-all (sized s p) h) (by (recordThere s p) h refl))
+      (λ (h : All (sized s p) → ⊥). rw (not-all (sized s p) h) (no-size h))
+      (all-or (sized s p))
+    where
+      by : (b : Bool) → All (sized s p) → recordThere s p ≡ b
+          → View (pick b (recordOf p (headerIn s p (p + sizeAt s p))) (Gap (sizeAt s p)))
+      by true h e = view-header h e (headerIn s p (p + sizeAt s p)) refl
+      by false h e = a-gap h e
+
+  viewed : {r : Piece} → pieceAt s p ≡ r → View r
+  viewed e = rw e at view
+
+  pub from-record : {k : Key} → pieceAt s p ≡ Record k → Recorded k
+  from-record e = go (viewed e)
+    where
+      go : {k : Key} → View (Record k) → Recorded k
+      go (a-record h) = h
 
   -- what a gap at p says of the file
   pub from-gap : {n : ℕ} → pieceAt s p ≡ Gap n → (4 ≤ n) × (p + n ≤ length s)
-  unfolding pieceAt
-  from-gap {n} e =
-      ⊎-elim
-      (λ (h : All (sized s p)). let f = gap-cases (recordThere s p) (rw (yes-all (sized s p) h) at e) in omega arith)
-      (λ (h : All (sized s p) → ⊥).
-      let f = rw (not-all (sized s p) h) at e in
-      let z : _≡_ {A = ℕ} 0 1 = cc in
-      absurd (omega arith))
-      (all-or (sized s p))
+  from-gap e = go (viewed e)
+    where
+      go : {n : ℕ} → View (Gap n) → (4 ≤ n) × (p + n ≤ length s)
+      go (a-gap h i) = (h .0, h .1 .0)
 
-  stop-cases : {c q : ℕ} (b : Bool)
-      → pick b (pick (all (recordFits s p)) (Record (keyAt s p)) (Refused 6 p)) (Gap (sizeAt s p)) ≡ Refused c q → q ≡ p
-  stop-cases {c} {q} true h =
-      ⊎-elim
-      (λ (f : All (recordFits s p)).
-      let g = rw (yes-all (recordFits s p) f) at h in
-      let z : _≡_ {A = ℕ} 0 1 = cc in
-      absurd (omega arith))
-      (λ (f : All (recordFits s p) → ⊥). let g = rw (not-all (recordFits s p) f) at h in cc)
-      (all-or (recordFits s p))
-  stop-cases {c} {q} false h = let z : _≡_ {A = ℕ} 0 1 = cc in absurd (omega arith)
+  -- where a record's number stands is no gap
+  pub no-gap : numAt 4 s p < 2147483648 → {n : ℕ} → pieceAt s p ≡ Gap n → ⊥
+  no-gap l e = go (viewed e)
+    where
+      go : {n : ℕ} → View (Gap n) → ⊥
+      go (a-gap h i) = let j = sym i ∙ is-record l in let z : _≡_ {A = ℕ} 0 1 = cc in omega arith
 
-  -- a refusal at p names p
+  -- a refusal at p names p, with 5 or 6
   pub from-refused : {c q : ℕ} → pieceAt s p ≡ Refused c q → q ≡ p
-  unfolding pieceAt
-  from-refused {c} {q} e =
-      ⊎-elim (λ (h : All (sized s p)). stop-cases (recordThere s p) (rw (yes-all (sized s p) h) at e))
-      (λ (h : All (sized s p) → ⊥). let f = rw (not-all (sized s p) h) at e in cc)
-      (all-or (sized s p))
+  from-refused e = go (viewed e)
+    where
+      go : {c q : ℕ} → View (Refused c q) → q ≡ p
+      go (no-size h) = refl
+      go (no-key h i) = refl
+
+  pub refused-number : {c q : ℕ} → pieceAt s p ≡ Refused c q → (c ≡ 5) ⊎ (c ≡ 6)
+  refused-number e = go (viewed e)
+    where
+      go : {c q : ℕ} → View (Refused c q) → (c ≡ 5) ⊎ (c ≡ 6)
+      go (no-size h) = inl refl
+      go (no-key h i) = inr refl
 
   -- a piece that is no refusal has at least 4 bytes and ends in the file
   lies : (r : Piece) → pieceAt s p ≡ r → 0 < sizeOf r → (4 ≤ sizeOf r) × (p + sizeOf r ≤ length s)

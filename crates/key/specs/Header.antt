@@ -1,10 +1,15 @@
 -- Key headers: document 01, "Key headers (000)".
 use Prim.Native.Nat.{ℕ, _+_}
+use mathlib.Core.Bool.{Bool}
 use mathlib.Core.List.{List, [], _∷_}
-use lib.ListN.{length}
-use Rattle.wire.specs.Check.{Check, le, lt, eq, all, pick}
-use Rattle.wire.specs.Number.{numAt, signedOf}
-use Rattle.wire.specs.Text.{textAt}
+use lib.ListN.{getD}
+use Rattle.wire.specs.Check.{Check, le, eq, all, pick}
+use Rattle.wire.specs.Layout.{offsetWidth, extent, valuesAt}
+use Rattle.wire.specs.Number.{signedOf}
+use Rattle.wire.specs.Text.{textIn, textSize}
+use Rattle.wire.specs.declared.text.Text.{Text}
+use Rattle.wire.specs.declared.text.Found.{Found}
+use Rattle.wire.specs.declared.text.Found.the-variants as text
 use Rattle.key.specs.declared.header.Names.{Names}
 use Rattle.key.specs.declared.header.Named.{Named}
 use Rattle.key.specs.declared.header.Named.the-variants.{Held, Cut}
@@ -12,50 +17,61 @@ use Rattle.key.specs.declared.header.Key.{Key}
 use Rattle.key.specs.declared.header.Header.{Header}
 use Rattle.key.specs.declared.header.Header.the-variants.{Good, Bad}
 
--- class, name and title, one after the other from p on
-unfoldable pub namesAt : List ℕ → ℕ → Names
-namesAt s p = record {
-  class = textAt s p;
-  name = textAt s (textAt s p .next);
-  title = textAt s (textAt s (textAt s p .next) .next);
-}
+-- the numbers of a header, over the width of an offset: Nbytes, Version, ObjLen, Datime, KeyLen, Cycle, SeekKey, SeekPdir
+abbrev pub keyLayout : ℕ → List ℕ
+keyLayout w = 4 ∷ 2 ∷ 4 ∷ 4 ∷ 2 ∷ 2 ∷ w ∷ w ∷ []
 
--- the fields at p: 0 Nbytes, 4 Version (2), 6 ObjLen, 10 Datime, 14 KeyLen (2), 16 Cycle (2, signed), 18 SeekKey, 22 SeekPdir,
--- then class, name and title
-unfoldable pub keyAt : List ℕ → ℕ → Key
-keyAt s p = record {
-  nbytes = numAt 4 s p;
-  version = numAt 2 s (p + 4);
-  objlen = numAt 4 s (p + 6);
-  datime = numAt 4 s (p + 10);
-  keylen = numAt 2 s (p + 14);
-  cycle = signedOf 2 (numAt 2 s (p + 16));
-  seekkey = numAt 4 s (p + 18);
-  seekpdir = numAt 4 s (p + 22);
-  class = namesAt s (p + 26) .class;
-  name = namesAt s (p + 26) .name;
-  title = namesAt s (p + 26) .title;
-}
+-- the bytes of these numbers, 18 + 2 * w: there the class's length byte stands
+abbrev pub fixedPart : ℕ → ℕ
+fixedPart w = extent (keyLayout w)
 
--- the three strings, read within the bytes before end: no length byte is 255
+-- go on with a string that was read
+abbrev pub onText : Found → (Text → Named) → Named
+onText (text.Held t) f = f t
+onText text.Cut f = Cut
+
+-- class, name and title, one after the other from p on, read within the bytes before end
 unfoldable pub namesIn : List ℕ → ℕ → ℕ → Named
 namesIn s p end =
-    pick
-    (all
-    (le end (length s) ∷ lt (namesAt s p .class .len) 255 ∷ lt (namesAt s p .name .len) 255
-    ∷ lt (namesAt s p .title .len) 255 ∷ le (namesAt s p .title .next) end ∷ []))
-    (Held (namesAt s p)) Cut
+    onText (textIn s p end)
+    (λ class. onText (textIn s (class .next) end)
+    (λ name. onText (textIn s (name .next) end) (λ title. Held (record { class = class; name = name; title = title }))))
+
+-- the key of numbers in the order of the layout, and of three strings; Cycle is signed
+abbrev pub keyFrom : List ℕ → Names → Key
+keyFrom ns t = record {
+  nbytes = getD ns 0 0;
+  version = getD ns 1 0;
+  objlen = getD ns 2 0;
+  datime = getD ns 3 0;
+  keylen = getD ns 4 0;
+  cycle = signedOf 2 (getD ns 5 0);
+  seekkey = getD ns 6 0;
+  seekpdir = getD ns 7 0;
+  class = t .class;
+  name = t .name;
+  title = t .title;
+}
+
+-- the key at p, of the numbers there and of strings that were read
+unfoldable pub keyAt : List ℕ → ℕ → Names → Key
+keyAt s p t = keyFrom (valuesAt (keyLayout offsetWidth) s p) t
 
 -- "sum": 26 plus the strings with their length bytes
 abbrev pub sumOf : Key → ℕ
-sumOf k = 26 + (1 + k .class .len) + (1 + k .name .len) + (1 + k .title .len)
+sumOf k = fixedPart offsetWidth + textSize (k .class .len) + textSize (k .name .len) + textSize (k .title .len)
 
--- "well formed": Version is 1 to 1000, ObjLen and Nbytes are at most 2,147,483,647, no length byte is 255, sum ≤ KeyLen ≤ Nbytes
+-- "well formed", of Nbytes, Version, ObjLen, KeyLen and sum: Version is 1 to 1000, ObjLen and Nbytes are at most 2,147,483,647,
+-- sum ≤ KeyLen ≤ Nbytes; that no length byte is 255 is a test of each string
+abbrev pub limits : ℕ → ℕ → ℕ → ℕ → ℕ → List Check
+limits nbytes version objlen keylen sum =
+    le 1 version ∷ le version 1000 ∷ le objlen 2147483647 ∷ le nbytes 2147483647 ∷ le sum keylen ∷ le keylen nbytes ∷ []
+
+unfoldable pub inLimits : ℕ → ℕ → ℕ → ℕ → ℕ → Bool
+inLimits nbytes version objlen keylen sum = all (limits nbytes version objlen keylen sum)
+
 abbrev pub wellFormed : Key → List Check
-wellFormed k =
-    le 1 (k .version) ∷ le (k .version) 1000 ∷ le (k .objlen) 2147483647 ∷ le (k .nbytes) 2147483647
-    ∷ lt (k .class .len) 255 ∷ lt (k .name .len) 255 ∷ lt (k .title .len) 255
-    ∷ le (sumOf k) (k .keylen) ∷ le (k .keylen) (k .nbytes) ∷ []
+wellFormed k = limits (k .nbytes) (k .version) (k .objlen) (k .keylen) (sumOf k)
 
 -- "plain": KeyLen equals sum
 abbrev pub plain : Key → List Check
@@ -65,9 +81,14 @@ plain k = eq (k .keylen) (sumOf k) ∷ []
 abbrev pub unpackedData : Key → List Check
 unpackedData k = eq (k .objlen + k .keylen) (k .nbytes) ∷ []
 
--- the header at p is well formed, read within the bytes before end: its strings end there, and so all that is read lies there
-abbrev pub headerFits : List ℕ → ℕ → ℕ → List Check
-headerFits s p end = le end (length s) ∷ le (keyAt s p .title .next) end ∷ wellFormed (keyAt s p)
+-- a key that is well formed, of strings that were read
+abbrev pub formed : Key → Header
+formed k = pick (all (wellFormed k)) (Good k) Bad
 
+abbrev pub onNames : Named → (Names → Header) → Header
+onNames (Held t) f = f t
+onNames Cut f = Bad
+
+-- the header at p, read within the bytes before end: its strings end there, and so all that is read lies there
 unfoldable pub headerIn : List ℕ → ℕ → ℕ → Header
-headerIn s p end = pick (all (headerFits s p end)) (Good (keyAt s p)) Bad
+headerIn s p end = onNames (namesIn s (p + fixedPart offsetWidth) end) (λ t. formed (keyAt s p t))

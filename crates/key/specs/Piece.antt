@@ -3,13 +3,16 @@ use Prim.Native.Nat.{ℕ, _+_}
 use mathlib.Core.List.{List, [], _∷_}
 use mathlib.Core.Bool.{Bool}
 use lib.ListN.{length}
+use lib.Dec.{eqb}
 use lib.IntN.{natAbs}
 use lib.Signed.{nonNeg}
-use Rattle.wire.specs.Check.{Check, le, eq, all, pick}
+use Rattle.wire.specs.Check.{Check, le, all, pick}
 use Rattle.wire.specs.Number.{numAt, signedOf}
-use Rattle.key.specs.Header.{keyAt, headerFits}
+use Rattle.key.specs.Header.{headerIn}
 use Rattle.wire.specs.Answer.{done, refusal}
 use Rattle.wire.specs.declared.Answer.{Answer}
+use Rattle.key.specs.declared.header.Header.{Header}
+use Rattle.key.specs.declared.header.Header.the-variants.{Good, Bad}
 use Rattle.key.specs.declared.piece.Piece.{Piece}
 use Rattle.key.specs.declared.piece.Piece.the-variants.{Record, Gap, Refused}
 
@@ -24,15 +27,17 @@ recordThere s p = nonNeg (signedOf 4 (numAt 4 s p))
 abbrev pub sized : List ℕ → ℕ → List Check
 sized s p = le 4 (sizeAt s p) ∷ le (p + sizeAt s p) (length s) ∷ []
 
--- a record's header is well formed, read within its n bytes only, and its SeekKey is p
-abbrev pub recordFits : List ℕ → ℕ → List Check
-recordFits s p = eq (keyAt s p .seekkey) p ∷ headerFits s p (p + sizeAt s p)
+-- a record's header is well formed, and its SeekKey is p
+abbrev pub recordOf : ℕ → Header → Piece
+recordOf p (Good k) = pick (eqb (k .seekkey) p) (Record k) (Refused 6 p)
+recordOf p Bad = Refused 6 p
 
--- a record, a gap or a refusal
+-- a record, whose header is read within its n bytes only, a gap or a refusal: 5, no piece of that size; 6, record not well
+-- formed, or SeekKey not p
 unfoldable pub pieceAt : List ℕ → ℕ → Piece
 pieceAt s p =
     pick (all (sized s p))
-    (pick (recordThere s p) (pick (all (recordFits s p)) (Record (keyAt s p)) (Refused 6 p)) (Gap (sizeAt s p)))
+    (pick (recordThere s p) (recordOf p (headerIn s p (p + sizeAt s p))) (Gap (sizeAt s p)))
     (Refused 5 p)
 
 -- the bytes that a piece takes; a refusal takes none
@@ -47,9 +52,6 @@ answerOf (Record k) = done (k .nbytes)
 answerOf (Gap n) = done n
 answerOf (Refused c p) = refusal c p
 
--- the table of refusals: 5, no piece of that size; 6, record not well formed, or SeekKey not p; the place is p
+-- the answer for the piece at p
 unfoldable pub pieceAnswer : List ℕ → ℕ → Answer
-pieceAnswer s p =
-    pick (all (sized s p))
-    (pick (recordThere s p) (pick (all (recordFits s p)) (done (sizeAt s p)) (refusal 6 p)) (done (sizeAt s p)))
-    (refusal 5 p)
+pieceAnswer s p = answerOf (pieceAt s p)

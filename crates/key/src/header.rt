@@ -1,12 +1,18 @@
 // Key headers (document 000).
 ghost use mathlib.Core.Path.{_≡_};
-ghost use Rattle.key.specs.Header.{headerIn, namesIn};
+ghost use Prim.Native.Nat.{_+_, _≤_};
+ghost use Rattle.wire.specs.Layout.{offsetWidth};
+ghost use Rattle.wire.specs.Lent.{before};
+ghost use Rattle.key.specs.Header.{fixedPart, keyAt, inLimits, headerIn, namesIn};
 use wire::number::be16;
 use wire::number::be32;
 use wire::number::signed16;
 use wire::text::Found;
 use wire::text::Text;
 use wire::text::read_text;
+
+// The bytes of a header before its strings.
+pub const FIXED: usize = 26;
 
 // The fields of a key header, and where its strings stand.
 pub struct Key {
@@ -42,7 +48,7 @@ pub enum Named {
 
 // The strings that stand one after the other from a place on, if they end at or before end.
 fn read_names(s: &[u8], at: usize, end: usize) -> Named
-    ensures { λ r. ⌜ r ≡ namesIn (now (s .entry)) at end ⌝ }
+    ensures { λ r. ⌜ r ≡ namesIn (before s) at end ⌝ }
 {
     let Found::Held(class) = read_text(s, at, end) else {
         return Named::Cut;
@@ -58,56 +64,72 @@ fn read_names(s: &[u8], at: usize, end: usize) -> Named
     Named::Held(Names { class, name, title })
 }
 
-// The header at a place, read within the bytes before end: well formed, or bad.
-pub fn read_header(s: &[u8], at: usize, end: usize) -> Header
-    ensures { λ r. ⌜ r ≡ headerIn (now (s .entry)) at end ⌝ }
+// The key at a place, with strings that were read.
+fn read_key(s: &[u8], at: usize, names: Names) -> Key
+    requires { ⌜ at + fixedPart offsetWidth ≤ 18446744073709551615 ⌝ }
+    ensures { λ r. ⌜ r ≡ keyAt (before s) at names ⌝ }
 {
-    if end <= at {
-        return Header::Bad;
-    }
-    if end - at < 29 {
-        return Header::Bad;
-    }
-    let Named::Held(names) = read_names(s, at + 26, end) else {
-        return Header::Bad;
-    };
     let class = names.class;
     let name = names.name;
     let title = names.title;
-    let next = title.next;
-    let nbytes = be32(s, at);
-    if 2147483647 < nbytes {
-        return Header::Bad;
-    }
-    let version = be16(s, at + 4);
-    if version < 1 {
-        return Header::Bad;
-    }
-    if 1000 < version {
-        return Header::Bad;
-    }
-    let objlen = be32(s, at + 6);
-    if 2147483647 < objlen {
-        return Header::Bad;
-    }
-    let keylen = be16(s, at + 14);
-    if nbytes < keylen {
-        return Header::Bad;
-    }
-    if (keylen as usize) < next - at {
-        return Header::Bad;
-    }
-    Header::Good(Key {
-        nbytes,
-        version,
-        objlen,
+    Key {
+        nbytes: be32(s, at),
+        version: be16(s, at + 4),
+        objlen: be32(s, at + 6),
         datime: be32(s, at + 10),
-        keylen,
+        keylen: be16(s, at + 14),
         cycle: signed16(be16(s, at + 16) as u16),
         seekkey: be32(s, at + 18) as u64,
         seekpdir: be32(s, at + 22) as u64,
         class,
         name,
         title,
-    })
+    }
+}
+
+// Whether these numbers and this sum are those of a well formed header.
+pub fn is_formed(nbytes: u32, version: u32, objlen: u32, keylen: u32, sum: usize) -> bool
+    ensures { λ r. ⌜ r ≡ inLimits nbytes version objlen keylen sum ⌝ }
+{
+    if version < 1 {
+        return false;
+    }
+    if 1000 < version {
+        return false;
+    }
+    if 2147483647 < objlen {
+        return false;
+    }
+    if 2147483647 < nbytes {
+        return false;
+    }
+    if nbytes < keylen {
+        return false;
+    }
+    if (keylen as usize) < sum {
+        return false;
+    }
+    true
+}
+
+// The header at a place, read within the bytes before end: well formed, or bad.
+pub fn read_header(s: &[u8], at: usize, end: usize) -> Header
+    ensures { λ r. ⌜ r ≡ headerIn (before s) at end ⌝ }
+{
+    if end <= at {
+        return Header::Bad;
+    }
+    if end - at <= FIXED {
+        return Header::Bad;
+    }
+    let Named::Held(names) = read_names(s, at + FIXED, end) else {
+        return Header::Bad;
+    };
+    let title = names.title;
+    let next = title.next;
+    let k = read_key(s, at, names);
+    if is_formed(k.nbytes, k.version, k.objlen, k.keylen, next - at) {
+        return Header::Good(k);
+    }
+    Header::Bad
 }

@@ -1,5 +1,6 @@
 // Pieces: a record, a gap or a refusal at a place.
 ghost use mathlib.Core.Path.{_≡_};
+ghost use Rattle.wire.specs.Lent.{before};
 ghost use Rattle.key.specs.Piece.{pieceAt, answerOf, pieceAnswer};
 use crate::header::Header;
 use crate::header::Key;
@@ -14,7 +15,7 @@ pub enum Piece {
 
 // The piece at any place of a file.
 pub fn read_piece(file: &[u8], at: usize) -> Piece
-    ensures { λ r. ⌜ (r ≡ pieceAt (now (file .entry)) at) × (answerOf r ≡ pieceAnswer (now (file .entry)) at) ⌝ }
+    ensures { λ r. ⌜ (r ≡ pieceAt (before file) at) × (answerOf r ≡ pieceAnswer (before file) at) ⌝ }
 {
     let end = file.len();
     if end <= at {

@@ -6,7 +6,7 @@ use mathlib.Core.Path.{_≡_, refl, sym, ap, _∙_}
 use native.Mathlib.Omega.{arith}
 use lib.Dec.{eqb}
 use Rattle.wire.specs.Check.{eq, all, All}
-use Rattle.wire.specs.Text.{textAt, textIn}
+use Rattle.wire.specs.Text.{textSize, textOf, textAt, textIn}
 use Rattle.wire.specs.declared.text.Text.{Text}
 use Rattle.wire.specs.declared.text.Found.the-variants as found
 use Rattle.wire.proofs.Checks.{picked, not-picked, from-picked, from-not-picked}
@@ -49,7 +49,7 @@ module _ (s : List ℕ) (p end n : ℕ) where
   no-head h = sym (not-picked (headFits s p end n) _ _ h)
 
   pub no-name : found.Cut ≡ textIn s p end → Bad ≡ headDirIn s p end n
-  unfolding textAt
+  unfolding textSize textOf textAt
   no-name e = no-head (λ h. from-cut s p end e (omega (arith, h)))
 
   -- the name and the title were read
@@ -59,7 +59,7 @@ module _ (s : List ℕ) (p end n : ℕ) where
     pub second : textAt s (textAt s p .next) .len < 255
 
   pub no-title : {a : Text} → found.Held a ≡ textIn s p end → found.Cut ≡ textIn s (a .next) end → Bad ≡ headDirIn s p end n
-  unfolding textAt
+  unfolding textSize textOf textAt
   no-title {a} d e =
       let f = rw (from-held s p end d .0) at e in
       no-head (λ h. from-cut s (textAt s p .next) end f (omega (arith, h)))

@@ -16,7 +16,7 @@ use Rattle.key.specs.Header.{sumOf, headerIn}
 use Rattle.key.specs.declared.header.Key.{Key}
 use Rattle.key.specs.declared.header.Header.{Header}
 use Rattle.key.specs.declared.header.Header.the-variants.{Good, Bad}
-use Rattle.key.proofs.Headers.{from-good, sum-next}
+use Rattle.key.proofs.Headers.{header-lies}
 use Rattle.key.specs.declared.piece.Piece.the-variants.{Record, Gap, Refused}
 use Rattle.wire.specs.Name.{tFile, tDirectory, tList, streamerInfo}
 use Rattle.layout.specs.Name.{named}
@@ -143,8 +143,7 @@ from-copy s p end e = from-copy-by s p end (headerIn s p end) refl e
 
 -- it lies before the end, and in the file
 pub copy-lies : (s : List ℕ) (p end : ℕ) {k : Key} → Good k ≡ copyIn s p end → (p + k .keylen ≤ end) × (end ≤ length s)
-copy-lies s p end {k} e =
+copy-lies s p end e =
     let f = from-copy s p end e in
-    let g = from-good s p end (f .0) in
-    let x = f .1 ∙ ap sumOf (g .0) in
-    (omega (arith, g .1 .1 .0, sum-next s p), g .1 .0)
+    let g = header-lies s p end (f .0) in
+    (omega (arith, f .1, g), g .2)

@@ -2,9 +2,9 @@
 use Prim.Native.Nat.{ℕ, _+_}
 use mathlib.Core.List.{List, [], _∷_}
 use lib.ListN.{length}
-use Rattle.wire.specs.Check.{Check, le, lt, eq, yes, all, pick}
+use Rattle.wire.specs.Check.{Check, le, eq, yes, all, pick}
 use Rattle.wire.specs.Number.{numAt}
-use Rattle.wire.specs.Text.{textAt}
+use Rattle.wire.specs.Text.{lengthFits, textAt}
 use Rattle.key.specs.Header.{sumOf}
 use Rattle.key.specs.Piece.{pieceAt}
 use Rattle.key.specs.declared.header.Key.{Key}
@@ -41,7 +41,7 @@ afterNames s p = textAt s (textAt s p .next) .next
 -- KeyLen plus those two strings (the key begins at 100)
 abbrev pub headFits : List ℕ → ℕ → ℕ → ℕ → List Check
 headFits s p end nbytesname =
-    lt (textAt s p .len) 255 ∷ lt (textAt s (textAt s p .next) .len) 255
+    lengthFits (textAt s p .len) ∷ lengthFits (textAt s (textAt s p .next) .len)
     ∷ eq (dirAt s (afterNames s p) .seekdir) 100 ∷ eq (dirAt s (afterNames s p) .seekparent) 0
     ∷ eq (dirAt s (afterNames s p) .nbytesname + 100) (afterNames s p) ∷ eq (nbytesname + 100) (afterNames s p)
     ∷ dirFits s (afterNames s p) end

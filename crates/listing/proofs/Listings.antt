@@ -6,7 +6,7 @@ use borrow.Author.Tests.{le-leb, lt-leb}
 use lib.ListN.{length}
 use lib.Seq.{length-take-le}
 use Rattle.wire.specs.declared.Answer.{Answer}
-use Rattle.wire.proofs.Dates.{same-answer}
+use Rattle.wire.proofs.Answers.{same-answer}
 use Rattle.report.specs.Report.{reportOf}
 use Rattle.report.proofs.Reports.{Wrote, wrote-within}
 use Rattle.audit.specs.Tables.{Audited}

@@ -9,11 +9,10 @@ use borrow.Author.Tests.{lt-ltb, le-ltb}
 use lib.ListN.{length}
 use Rattle.wire.specs.Check.{all, pick}
 use Rattle.wire.proofs.Checks.{all-yes, below-or}
-use Rattle.key.specs.Header.{keyAt}
-use Rattle.key.specs.Piece.{pieceAt, sizeOf, sizeAt, sized, recordThere, recordFits}
+use Rattle.key.specs.Piece.{pieceAt, sizeOf}
 use Rattle.key.specs.declared.piece.Piece.{Piece}
 use Rattle.key.specs.declared.piece.Piece.the-variants.{Record, Gap, Refused}
-use Rattle.key.proofs.Pieces.{size-fits, from-gap, from-refused, record-sized}
+use Rattle.key.proofs.Pieces.{size-fits, from-gap, from-refused, refused-number, record-sized}
 use Rattle.layout.specs.File.{openedAs, fileHead, longEnough, magic, narrow, bounds}
 use Rattle.layout.specs.declared.file.FileHead.{FileHead}
 use Rattle.layout.specs.declared.file.Opened.the-variants as opened
@@ -138,24 +137,6 @@ fault-partition s (suc n) p c q e l m =
     e
 
 -- the numbers of a fault
-module _ (s : List ℕ) (p : ℕ) where
-  record-refused : {c q : ℕ} (b d : Bool)
-      → pick b (pick d (Record (keyAt s p)) (Refused 6 p)) (Gap (sizeAt s p)) ≡ Refused c q → (c ≡ 5) ⊎ (c ≡ 6)
-  record-refused true true e = let z : _≡_ {A = ℕ} 0 1 = cc in absurd (omega arith)
-  record-refused true false e = inr cc
-  record-refused false d e = let z : _≡_ {A = ℕ} 0 1 = cc in absurd (omega arith)
-
-  all-refused : {c q : ℕ} (a : Bool)
-      → pick a (pick (recordThere s p) (pick (all (recordFits s p)) (Record (keyAt s p)) (Refused 6 p)) (Gap (sizeAt s p))) (Refused 5 p)
-      ≡ Refused c q
-      → (c ≡ 5) ⊎ (c ≡ 6)
-  all-refused true e = record-refused (recordThere s p) (all (recordFits s p)) e
-  all-refused false e = inl cc
-
-  pub refused-number : {c q : ℕ} → pieceAt s p ≡ Refused c q → (c ≡ 5) ⊎ (c ≡ 6)
-  unfolding pieceAt
-  refused-number e = all-refused (all (sized s p)) e
-
 pub fault-number : (s : List ℕ) (n p c q : ℕ) → chain s n p ≡ fault c q → (c ≡ 5) ⊎ (c ≡ 6)
 unfolding chain
 fault-number s zero p c q e = inl cc

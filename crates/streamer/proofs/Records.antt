@@ -9,14 +9,14 @@ use borrow.Author.Tests.{eq-eqb, ne-eqb, eqb-true}
 use lib.ListN.{length, take, drop}
 use lib.Dec.{eqb}
 use Rattle.wire.specs.Check.{all, All, pick}
-use Rattle.wire.specs.Text.{textAt, contentOf}
-use Rattle.key.specs.Header.{keyAt, namesAt, sumOf, plain, unpackedData}
-use Rattle.key.specs.Piece.{sizeAt, recordThere, sized, recordFits, pieceAt}
+use Rattle.wire.specs.Text.{contentOf}
+use Rattle.key.specs.Header.{sumOf, plain, unpackedData}
+use Rattle.key.specs.Piece.{pieceAt}
 use Rattle.key.specs.declared.header.Key.{Key}
 use Rattle.key.specs.declared.piece.Piece.{Piece}
 use Rattle.key.specs.declared.piece.Piece.the-variants.{Record, Gap, Refused}
 use Rattle.wire.proofs.Checks.{yes-all, not-all, all-yes}
-use Rattle.key.proofs.Pieces.{size-plus}
+use Rattle.key.proofs.Pieces.{from-record}
 use Rattle.streamer.proofs.Runs.{ended-stop}
 use Rattle.streamer.specs.Row.{stop, Ended}
 use denote.Enum.Declared.{tagOf}
@@ -63,12 +63,13 @@ pub record Places (s : List ℕ) (p : ℕ) (k : Key) : Type 0 where
   pub before : k .class .next ≤ k .name .start
   pub after : k .name .next ≤ k .title .next
 
-places : (s : List ℕ) (p : ℕ) → Places s p (keyAt s p)
-unfolding keyAt namesAt textAt
-places s p = record { sum = omega arith; class = omega arith; name = omega arith; before = omega arith; after = omega arith }
-
-pub key-places : (s : List ℕ) (p : ℕ) {k : Key} → k ≡ keyAt s p → Places s p k
-key-places s p e = rw e (places s p)
+pub key-places : (s : List ℕ) (p : ℕ) {k : Key} → pieceAt s p ≡ Record k → Places s p k
+key-places s p e =
+    let h = from-record s p e .header in
+    let a = h .strings .class in
+    let b = h .strings .name in
+    let c = h .strings .title in
+    record { sum = h .sum; class = a .content; name = b .content; before = omega (arith, b .start); after = omega (arith, c .next) }
 
 -- the key of the StreamerInfo record, or another
 module _ (s : List ℕ) (k : Key) where
@@ -90,23 +91,6 @@ module _ (s : List ℕ) (k : Key) where
     unfolding contentOf
     by-name g l j d = rw (is-plain h, class-is, g, ← j) d
 
--- a record that was read at a place
-pub from-record : (s : List ℕ) (p : ℕ) {y : Piece} {k : Key} → y ≡ pieceAt s p → y ≡ Record k → (k ≡ keyAt s p) × (All (sized s p) × All (recordFits s p))
-unfolding pieceAt
-from-record s p {y} {k} d g = go (all (sized s p)) refl (sym g ∙ d)
-  where
-    last : (b : Bool) → all (recordFits s p) ≡ b → All (sized s p) → Record k ≡ pick b (Record (keyAt s p)) (Refused 6 p) → (k ≡ keyAt s p) × (All (sized s p) × All (recordFits s p))
-    last true e h i = (cc, (h, all-yes (recordFits s p) e))
-    last false e h i = let z : _≡_ {A = ℕ} 0 1 = cc in absurd (omega arith)
-
-    next : (b : Bool) → All (sized s p) → Record k ≡ pick b (pick (all (recordFits s p)) (Record (keyAt s p)) (Refused 6 p)) (Gap (sizeAt s p)) → (k ≡ keyAt s p) × (All (sized s p) × All (recordFits s p))
-    next true h i = last (all (recordFits s p)) refl h i
-    next false h i = let z : _≡_ {A = ℕ} 0 1 = cc in absurd (omega arith)
-
-    go : (b : Bool) → all (sized s p) ≡ b → Record k ≡ pick b (pick (recordThere s p) (pick (all (recordFits s p)) (Record (keyAt s p)) (Refused 6 p)) (Gap (sizeAt s p))) (Refused 5 p) → (k ≡ keyAt s p) × (All (sized s p) × All (recordFits s p))
-    go true e i = next (recordThere s p) (all-yes (sized s p) e) i
-    go false e i = let z : _≡_ {A = ℕ} 0 1 = cc in absurd (omega arith)
-
 -- the end of the list is the data's
 pub from-whole : (s : List ℕ) (p e : ℕ) {y : Count} {q f : ℕ} → y ≡ wholeAt s p e → y ≡ Open q f → f ≡ e
 unfolding wholeAt
@@ -122,20 +106,18 @@ from-whole s p e {y} {q} {f} d g = go (countAt s p e) (sym g ∙ d)
 
 -- what is known of a record that was read
 pub record Found (s : List ℕ) (p : ℕ) (k : Key) : Type 0 where
-  pub is : k ≡ keyAt s p
+  pub is : pieceAt s p ≡ Record k
   pub small : k .nbytes ≤ 2147483647
   pub key : k .keylen ≤ k .nbytes
   pub fits : p + k .nbytes ≤ length s
   pub strings : k .title .next ≤ length s
 
-found-at : (s : List ℕ) (p : ℕ) → All (Rattle.key.specs.Piece.sized s p) → All (recordFits s p) → Found s p (keyAt s p)
-unfolding keyAt
-found-at s p h g =
-    let e = size-plus s p (omega (arith, g .1 .1 .1 .1 .1 .1 .0)) in
-    record { is = refl; small = omega (arith, g); key = omega (arith, g); fits = omega (arith, h, g); strings = omega (arith, h, g) }
-
 pub found : (s : List ℕ) (p : ℕ) {y : Piece} {k : Key} → y ≡ pieceAt s p → y ≡ Record k → Found s p k
-found s p d g = let f = from-record s p d g in rw (f .0) (found-at s p (f .1 .0) (f .1 .1))
+found s p d g =
+    let h = from-record s p (sym d ∙ g) in
+    let f = h .header .fits in
+    let t = h .header .strings .title in
+    record { is = sym d ∙ g; small = omega arith; key = omega arith; fits = omega (arith, h .size, h .sized-there); strings = omega (arith, t .fits, t .room) }
 
 -- a test that was turned round
 pub turned : (b : Bool) → not b ≡ true → b ≡ false

@@ -9,7 +9,7 @@ use native.Mathlib.Nat.{suc-add, zero-add}
 use native.Mathlib.Numerals.{add-one}
 use borrow.Author.Tests.{leb-true, le-leb, lt-leb, eq-eqb, ne-eqb}
 use Rattle.wire.specs.Check.{All, pick}
-use Rattle.wire.specs.Text.{textAt, textIn}
+use Rattle.wire.specs.Text.{textSize, textOf, textAt, textIn}
 use Rattle.wire.specs.declared.text.Text.{Text}
 use Rattle.wire.specs.declared.text.Found.{Found}
 use Rattle.wire.specs.declared.text.Found.the-variants.{Held, Cut}
@@ -100,7 +100,7 @@ empty-out s p e {y} d g = rw (sym d ∙ g)
 
 -- a string that was read starts before the end
 pub text-below : (s : List ℕ) (p e : ℕ) {y : Step} {q : ℕ} → y ≡ textFieldAt s p e → y ≡ Next q → p ≤ e
-unfolding textFieldAt textAt
+unfolding textFieldAt textSize textOf textAt
 text-below s p e {y} {q} d g = go (textIn s p e) refl (sym d ∙ g)
   where
     go : (f : Found) → f ≡ textIn s p e → placed f p ≡ Next q → p ≤ e

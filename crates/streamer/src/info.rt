@@ -4,7 +4,8 @@ ghost use Prim.Native.Nat.{_+_, _≤_, _<_};
 ghost use lib.ListN.{length};
 ghost use Rattle.streamer.specs.Element.{elementAt};
 ghost use Rattle.streamer.specs.Info.{collectionAt, arrayBody, arrayAt, classBody, classAt, wholeAt, listAt, isInfo, infoAt, noRecord};
-ghost use Rattle.key.specs.Header.{keyAt};
+ghost use Rattle.key.specs.Piece.{pieceAt};
+ghost use Rattle.key.specs.declared.piece.Piece.the-variants.{Record};
 ghost use Rattle.streamer.specs.Row.{Ran, Grown, Ended, closedRows, times};
 use crate::element::Named;
 use crate::element::element;
@@ -363,7 +364,7 @@ fn no_record(piece: Piece, at: usize) -> Rows
 
 // Whether a key is that of the StreamerInfo record: plain, of class TList and name StreamerInfo.
 fn is_info(file: &[u8], at: usize, k: Key) -> bool
-    requires { ⌜ (k ≡ keyAt (now file) at) × (k .title .next ≤ length (now file)) ⌝ }
+    requires { ⌜ (pieceAt (now file) at ≡ Record k) × (k .title .next ≤ length (now file)) ⌝ }
     ensures { λ r. ⌜ r ≡ isInfo (now (file .entry)) k ⌝ }
 {
     let class = k.class;

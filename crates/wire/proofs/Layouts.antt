@@ -8,7 +8,7 @@ use lib.ListN.{length, take, drop, length-append, length-drop}
 use lib.Seq.{getD-drop, drop-drop, drop-at, take-add}
 use Rattle.wire.specs.Number.{beValue, numAt, beBytes}
 use Rattle.wire.specs.Layout.{extent, valuesAt, valueBytes, Fit}
-use Rattle.wire.proofs.Numbers.{num-in, length-bytes, value-bytes, Bytes, bytes-value}
+use Rattle.wire.proofs.Numbers.{num-in, length-bytes, value-bytes, Bytes, bytes-value, value-below}
 
 pub length-values : (ws vs : List ℕ) → length (valueBytes ws vs) ≡ extent ws
 length-values [] vs = refl
@@ -50,3 +50,8 @@ write-read [] s p b l = sym refl
 write-read (w ∷ ws) s p b l =
     rw (num-in w s p (omega arith), bytes-value w s p b (omega arith), write-read ws s (p + w) b (omega arith), ← (drop-drop w p s))
     (sym (take-add w (extent ws) (drop p s)))
+
+-- what was read fits
+pub values-fit : (ws s : List ℕ) (p : ℕ) → Bytes s → p + extent ws ≤ length s → Fit ws (valuesAt ws s p)
+values-fit [] s p b l = tt
+values-fit (w ∷ ws) s p b l = (rw (num-in w s p (omega arith)) (value-below w s p b), values-fit ws s (p + w) b (omega arith))

@@ -1,5 +1,5 @@
+pub mod Answers
 pub mod Checks
-pub mod Dates
 pub mod Equal
 pub mod Layouts
 pub mod Numbers

@@ -1,6 +1,7 @@
 -- Laws of big-endian numbers, over the width.
 use Prim.Native.Nat.{ℕ, zero, suc, _+_, _-_, _*_, _/_, _%_, _^_, _<_, _≤_}
 use mathlib.Core.List.{List, _∷_, _++_}
+use mathlib.Core.Logic.{⊎-elim}
 use mathlib.Core.Path.{_≡_, refl, _∙_}
 use native.Mathlib.Nat.{add-zero, zero-add, add-assoc, div-add-mod', div-lt-iff-lt-mul, pow-suc}
 use native.Mathlib.Numerals.{add-one}
@@ -9,8 +10,9 @@ use borrow.Author.Tests.{le-leb, lt-leb}
 use lib.ListN.{length, take, drop, getD, length-append, length-drop}
 use lib.Seq.{sets, sets-eq, getD-append-add, getD-drop, take-suc}
 use mathlib.Core.List.{append-assoc}
-use Rattle.wire.specs.Number.{beValue, numAt, beBytes}
+use Rattle.wire.specs.Number.{beValue, numAt, beBytes, lesser}
 use Rattle.wire.specs.Patch.{patch}
+use Rattle.wire.proofs.Checks.{below-or}
 use Rattle.wire.proofs.Patches.{patch-at}
 
 -- the number is there, or not
@@ -80,3 +82,8 @@ pub value-below : (w : ℕ) (s : List ℕ) (p : ℕ) → Bytes s → beValue w s
 unfolding beValue Bytes
 value-below zero s p b = omega arith
 value-below (suc w) s p b = let l = value-below w s p b in let g = b (p + w) in rw (pow-suc 256 w) (omega arith)
+
+-- the lesser of two numbers is at most each
+pub lesser-within : (a b : ℕ) → (lesser a b ≤ a) × (lesser a b ≤ b)
+lesser-within a b =
+    ⊎-elim (λ (l : b < a). rw (lt-leb a b l) (omega arith)) (λ (l : a ≤ b). rw (le-leb a b l) (omega arith)) (below-or b a)

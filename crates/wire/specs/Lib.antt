@@ -1,6 +1,5 @@
 pub mod Answer
 pub mod Check
-pub mod Date
 pub mod Equal
 pub mod Layout
 pub mod Lent

@@ -7,13 +7,25 @@ use Rattle.wire.specs.declared.text.Text.{Text}
 use Rattle.wire.specs.declared.text.Found.{Found}
 use Rattle.wire.specs.declared.text.Found.the-variants.{Held, Cut}
 
--- the string whose length byte stands at p: its first byte, its length, and the place after it
-unfoldable pub textAt : List ℕ → ℕ → Text
-textAt s p = record { start = p + 1; len = getD s p 0; next = p + 1 + getD s p 0 }
+-- the bytes that a string of n bytes takes: its length byte and its own
+unfoldable pub textSize : ℕ → ℕ
+textSize n = 1 + n
 
--- no length byte is 255, and the string ends at or before end
+-- no length byte is 255
+abbrev pub lengthFits : ℕ → Check
+lengthFits n = lt n 255
+
+-- a string of n bytes that takes those from p on: its first byte, its length, and the place after it
+unfoldable pub textOf : ℕ → ℕ → Text
+textOf p n = record { start = p + 1; len = n; next = p + textSize n }
+
+-- the string whose length byte stands at p
+unfoldable pub textAt : List ℕ → ℕ → Text
+textAt s p = textOf p (getD s p 0)
+
+-- its length is taken, and it ends at or before end
 abbrev pub textFits : Text → ℕ → List Check
-textFits t end = lt (t .len) 255 ∷ le (t .next) end ∷ []
+textFits t end = lengthFits (t .len) ∷ le (t .next) end ∷ []
 
 -- the string at p, read within the bytes before end
 unfoldable pub textIn : List ℕ → ℕ → ℕ → Found

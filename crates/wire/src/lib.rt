@@ -1,9 +1,8 @@
-// What records are made of: big-endian numbers, counted strings, packed dates. Every public function takes any
-// input and has no precondition.
+// What records are made of: big-endian numbers and counted strings. Every public function takes any input and has
+// no precondition.
 ghost use mathlib.Core.Path.{_≡_};
 ghost use Rattle.wire.specs.Answer.{done, refusal};
 
-pub mod date;
 pub mod number;
 pub mod text;
 

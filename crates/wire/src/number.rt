@@ -2,6 +2,7 @@
 ghost use mathlib.Core.Path.{_≡_};
 ghost use Prim.Native.Nat.{_<_, _≤_, _+_};
 ghost use lib.ListN.{length};
+ghost use Rattle.wire.specs.Lent.{before};
 ghost use Rattle.wire.specs.Number.{numAt, Word, lesser, signedOf, bits16};
 
 fn wide(b: u8) -> u32
@@ -12,7 +13,7 @@ fn wide(b: u8) -> u32
 
 // The number of 2 bytes at a place; 0 unless both are there.
 pub fn be16(s: &[u8], at: usize) -> u32
-    ensures { λ r. ⌜ (r ≡ numAt 2 (now (s .entry)) at) × (r < 65536) ⌝ }
+    ensures { λ r. ⌜ (r ≡ numAt 2 (before s) at) × (r < 65536) ⌝ }
 {
     if s.len() < 2 {
         return 0;
@@ -26,14 +27,14 @@ pub fn be16(s: &[u8], at: usize) -> u32
 // The number of 4 bytes that are there.
 pub(crate) fn word(s: &[u8], at: usize) -> u32
     requires { ⌜ at + 4 ≤ length (now s) ⌝ }
-    ensures { λ r. ⌜ Word (now (s .entry)) at r ⌝ }
+    ensures { λ r. ⌜ Word (before s) at r ⌝ }
 {
     wide(s[at]) * 16777216 + wide(s[at + 1]) * 65536 + wide(s[at + 2]) * 256 + wide(s[at + 3])
 }
 
 // The number of 4 bytes at a place; 0 unless all are there.
 pub fn be32(s: &[u8], at: usize) -> u32
-    ensures { λ r. ⌜ r ≡ numAt 4 (now (s .entry)) at ⌝ }
+    ensures { λ r. ⌜ r ≡ numAt 4 (before s) at ⌝ }
 {
     if s.len() < 4 {
         return 0;

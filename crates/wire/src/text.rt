@@ -1,6 +1,7 @@
 // Counted strings: a length byte 0 to 254 and as many bytes.
 ghost use mathlib.Core.Path.{_≡_};
 ghost use Rattle.wire.specs.Equal.{eqBytes};
+ghost use Rattle.wire.specs.Lent.{before};
 ghost use Rattle.wire.specs.Text.{textIn};
 use crate::number::word;
 
@@ -18,7 +19,7 @@ pub enum Found {
 
 // The string whose length byte is at a place, if it ends at or before end.
 pub fn read_text(s: &[u8], at: usize, end: usize) -> Found
-    ensures { λ r. ⌜ r ≡ textIn (now (s .entry)) at end ⌝ }
+    ensures { λ r. ⌜ r ≡ textIn (before s) at end ⌝ }
 {
     if s.len() < end {
         return Found::Cut;
@@ -36,13 +37,13 @@ pub fn read_text(s: &[u8], at: usize, end: usize) -> Found
     Found::Held(Text {
         start: at + 1,
         len,
-        next: at + 1 + len,
+        next: at + (1 + len),
     })
 }
 
 // Whether two slices hold the same bytes.
 pub fn same(a: &[u8], b: &[u8]) -> bool
-    ensures { λ r. ⌜ r ≡ eqBytes (now (a .entry)) (now (b .entry)) ⌝ }
+    ensures { λ r. ⌜ r ≡ eqBytes (before a) (before b) ⌝ }
 {
     if a.len() != b.len() {
         return false;

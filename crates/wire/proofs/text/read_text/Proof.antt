@@ -1,16 +1,16 @@
 use native.Mathlib.Omega.{arith}
-use Rattle.wire.specs.Text.{textAt}
+use Rattle.wire.specs.Text.{textSize, textOf, textAt}
 use Rattle.wire.proofs.Texts.{is-cut, is-held}
 use borrow.Author.Needs.{needs}
 use Rattle.wire.proofs.text.read_text.Statement.{statement}
 use Rattle.wire.proofs.text.read_text.Tie as tie
 
 returns : tie.Need-returns
-unfolding textAt
+unfolding textSize textOf textAt
 returns c = is-cut _ _ _ (λ h. omega (arith, h))
 
 returns-2 : tie.Need-returns-2
-unfolding textAt
+unfolding textSize textOf textAt
 returns-2 c = is-cut _ _ _ (λ h. omega (arith, h))
 
 shared-slice-read-len : tie.Need-shared-slice-read-len
@@ -20,14 +20,14 @@ cast-len : tie.Need-cast-len
 cast-len c = omega (arith, c .shared-slice-known .given (c .before .before .before .args .at))
 
 returns-3 : tie.Need-returns-3
-unfolding textAt
+unfolding textSize textOf textAt
 returns-3 c = is-cut _ _ _ (λ h. omega (arith, h))
 
 sub-if4 : tie.Need-sub-if4
 sub-if4 c = search needs
 
 returns-4 : tie.Need-returns-4
-unfolding textAt
+unfolding textSize textOf textAt
 returns-4 c = is-cut _ _ _ (λ h. omega (arith, h))
 
 add-t5 : tie.Need-add-t5
@@ -40,7 +40,7 @@ add-t10 : tie.Need-add-t10
 add-t10 c = search needs
 
 returns-5 : tie.Need-returns-5
-unfolding textAt
+unfolding textSize textOf textAt
 returns-5 c = is-held _ _ _ (omega (arith, c .before .before .shared-slice-known .given (c .before .before .before .before .before .args .at)))
 
 pub read-text-spec : {M : Type 1} → statement M

@@ -1,0 +1,4 @@
+pub mod RoundTrips
+pub mod Stores
+pub mod WriteAgain
+pub mod Writes

@@ -1,0 +1,86 @@
+-- The key writer: document 01, "The key writer takes the fields but KeyLen ...".
+use Prim.Native.Nat.{ℕ, _+_, _^_}
+use mathlib.Core.List.{List, [], _∷_, _++_}
+use lib.ListN.{length}
+use lib.Signed.{mag}
+use lib.Dec.{leb, eqb}
+use Rattle.wire.specs.Answer.{done, refusal}
+use Rattle.wire.specs.Check.{Check, lt, all, pick}
+use Rattle.wire.specs.Layout.{offsetWidth, valueBytes}
+use Rattle.wire.specs.Number.{bitsOf}
+use Rattle.wire.specs.Patch.{patch}
+use Rattle.wire.specs.Text.{textSize, lengthFits, textOf, textBytes}
+use Rattle.wire.specs.declared.Answer.{Answer}
+use Rattle.key.specs.Header.{keyLayout, fixedPart, wellFormed}
+use Rattle.key.specs.declared.header.Key.{Key}
+use Rattle.writer.specs.declared.Fields.{Fields}
+
+-- class, name and title as they are written
+unfoldable pub nameBytes : List ℕ → List ℕ → List ℕ → List ℕ
+nameBytes class name title = textBytes class ++ textBytes name ++ textBytes title
+
+-- the sum of a header with these strings
+abbrev pub sumBytes : List ℕ → List ℕ → List ℕ → ℕ
+sumBytes class name title = fixedPart offsetWidth + textSize (length class) + textSize (length name) + textSize (length title)
+
+-- the numbers of a header in the order of the layout: KeyLen is given, Cycle is its two bytes
+abbrev pub numbersOf : Fields → ℕ → List ℕ
+numbersOf f keylen =
+    f .nbytes ∷ f .version ∷ f .objlen ∷ f .datime ∷ keylen ∷ bitsOf 2 (f .cycle) ∷ f .seekkey ∷ f .seekpdir ∷ []
+
+-- the header's bytes
+unfoldable pub headerBytes : Fields → List ℕ → List ℕ → List ℕ → List ℕ
+headerBytes f class name title =
+    valueBytes (keyLayout offsetWidth) (numbersOf f (sumBytes class name title)) ++ nameBytes class name title
+
+-- the key that is written, at its SeekKey: KeyLen is the sum
+unfoldable pub keyOf : Fields → List ℕ → List ℕ → List ℕ → Key
+keyOf f class name title = record {
+  nbytes = f .nbytes;
+  version = f .version;
+  objlen = f .objlen;
+  datime = f .datime;
+  keylen = sumBytes class name title;
+  cycle = f .cycle;
+  seekkey = f .seekkey;
+  seekpdir = f .seekpdir;
+  class = textOf (f .seekkey + fixedPart offsetWidth) (length class);
+  name = textOf (f .seekkey + fixedPart offsetWidth + textSize (length class)) (length name);
+  title = textOf (f .seekkey + fixedPart offsetWidth + textSize (length class) + textSize (length name)) (length title);
+}
+
+-- the fields of a key that was read, to be written again
+abbrev pub fieldsOf : Key → Fields
+fieldsOf k = record {
+  nbytes = k .nbytes;
+  version = k .version;
+  objlen = k .objlen;
+  datime = k .datime;
+  cycle = k .cycle;
+  seekkey = k .seekkey;
+  seekpdir = k .seekpdir;
+}
+
+-- 15 name: a string over 254
+abbrev pub namesShort : List ℕ → List ℕ → List ℕ → List Check
+namesShort class name title = lengthFits (length class) ∷ lengthFits (length name) ∷ lengthFits (length title) ∷ []
+
+-- 16 field: header not well formed, or a value that does not fit its field
+abbrev pub keyFits : Fields → List ℕ → List ℕ → List ℕ → List Check
+keyFits f class name title =
+    lt (mag (f .cycle)) 32768 ∷ lt (f .seekkey) (256 ^ offsetWidth) ∷ lt (f .seekpdir) (256 ^ offsetWidth)
+    ∷ wellFormed (keyOf f class name title)
+
+-- number, place and count, in the order 15, 16, 17; on success the count is KeyLen
+unfoldable pub writeAnswer : Fields → List ℕ → List ℕ → List ℕ → List ℕ → Answer
+writeAnswer f class name title buf =
+    pick (all (namesShort class name title))
+    (pick (all (keyFits f class name title))
+    (pick (leb (f .seekkey + f .nbytes) (length buf)) (done (sumBytes class name title)) (refusal 17 0))
+    (refusal 16 0))
+    (refusal 15 0)
+
+-- the buffer at exit: unchanged on refusal, else before ++ header bytes ++ after
+unfoldable pub writeBuffer : Fields → List ℕ → List ℕ → List ℕ → List ℕ → List ℕ
+writeBuffer f class name title buf =
+    pick (eqb (writeAnswer f class name title buf .number) 0) (patch buf (f .seekkey) (headerBytes f class name title)) buf

@@ -1,0 +1,116 @@
+// The key writer. The public function takes any input and has no precondition.
+ghost use mathlib.Core.Path.{_≡_};
+ghost use mathlib.Core.List.{_++_};
+ghost use Prim.Native.Nat.{_+_, _≤_};
+ghost use lib.ListN.{length};
+ghost use Rattle.wire.specs.Check.{All};
+ghost use Rattle.wire.specs.Layout.{offsetWidth, valueBytes};
+ghost use Rattle.wire.specs.Lent.{before, after};
+ghost use Rattle.wire.specs.Number.{bitsOf};
+ghost use Rattle.wire.specs.Patch.{patch};
+ghost use Rattle.wire.specs.Text.{textSize};
+ghost use Rattle.key.specs.Header.{keyLayout};
+ghost use Rattle.writer.specs.Writer.{nameBytes, numbersOf, namesShort, sumBytes, writeAnswer, writeBuffer};
+use crate::store::put_text;
+use crate::store::put_values;
+use key::header::FIXED;
+use key::header::is_formed;
+use wire::Answer;
+use wire::finished;
+use wire::number::Bits;
+use wire::number::bits_of;
+use wire::refused;
+
+mod store;
+
+// The fields of a key header but KeyLen, which the writer works out.
+pub struct Fields {
+    pub nbytes: u32,
+    pub version: u32,
+    pub objlen: u32,
+    pub datime: u32,
+    pub cycle: i32,
+    pub seekkey: u64,
+    pub seekpdir: u64,
+}
+
+// Writes three strings, one after the other, at the front of a part.
+fn put_names(part: &mut [u8], class: &[u8], name: &[u8], title: &[u8])
+    requires { ⌜ All (namesShort (now class) (now name) (now title))
+        × (textSize (length (now class)) + textSize (length (now name)) + textSize (length (now title)) ≤ length (now part)) ⌝ }
+    ensures { λ _. ⌜ after part ≡ patch (before part) 0 (nameBytes (before class) (before name) (before title)) ⌝ }
+{
+    put_text(&mut *part, class);
+    let second = 1 + class.len();
+    put_text(&mut part[second..], name);
+    let third = second + (1 + name.len());
+    put_text(&mut part[third..], title);
+}
+
+// Writes a header at the front of a part: the numbers, then the strings.
+fn put_header(
+    part: &mut [u8],
+    f: Fields,
+    keylen: usize,
+    cycle: u32,
+    class: &[u8],
+    name: &[u8],
+    title: &[u8],
+)
+    requires { ⌜ All (namesShort (now class) (now name) (now title)) × (cycle ≡ bitsOf 2 (f .cycle))
+        × (sumBytes (now class) (now name) (now title) ≤ length (now part)) ⌝ }
+    ensures { λ _. ⌜ after part ≡ patch (before part) 0
+        (valueBytes (keyLayout offsetWidth) (numbersOf f keylen) ++ nameBytes (before class) (before name) (before title)) ⌝ }
+{
+    let widths: [usize; 8] = [4, 2, 4, 4, 2, 2, 4, 4];
+    let values: [u64; 8] = [
+        f.nbytes as u64,
+        f.version as u64,
+        f.objlen as u64,
+        f.datime as u64,
+        keylen as u64,
+        cycle as u64,
+        f.seekkey,
+        f.seekpdir,
+    ];
+    put_values(&mut *part, &widths, &values);
+    put_names(&mut part[FIXED..], class, name, title);
+}
+
+// Writes a header at the place SeekKey of a buffer. Refused: 15 for a string over 254 bytes, 16 for a header
+// that is not well formed or a value that does not fit its field, 17 for a record that the buffer cannot hold.
+pub fn write_key(f: Fields, class: &[u8], name: &[u8], title: &[u8], buf: &mut [u8]) -> Answer
+    ensures { λ r. ⌜ (r ≡ writeAnswer f (before class) (before name) (before title) (before buf))
+        × (after buf ≡ writeBuffer f (before class) (before name) (before title) (before buf)) ⌝ }
+{
+    if 254 < class.len() {
+        return refused(15, 0);
+    }
+    if 254 < name.len() {
+        return refused(15, 0);
+    }
+    if 254 < title.len() {
+        return refused(15, 0);
+    }
+    let sum = FIXED + (1 + class.len()) + (1 + name.len()) + (1 + title.len());
+    let Bits::Held(cycle) = bits_of(f.cycle) else {
+        return refused(16, 0);
+    };
+    let nbytes = f.nbytes;
+    let seekkey = f.seekkey;
+    if 4294967295 < seekkey {
+        return refused(16, 0);
+    }
+    if 4294967295 < f.seekpdir {
+        return refused(16, 0);
+    }
+    if !is_formed(nbytes, f.version, f.objlen, sum as u32, sum) {
+        return refused(16, 0);
+    }
+    let at = seekkey as usize;
+    if buf.len() < at + nbytes as usize {
+        return refused(17, 0);
+    }
+    put_header(&mut buf[at..], f, sum, cycle, class, name, title);
+    finished(sum as u64)
+}
