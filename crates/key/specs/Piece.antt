@@ -10,6 +10,7 @@ use Rattle.wire.specs.Number.{numAt, signedOf}
 use Rattle.key.specs.Header.{keyAt, headerFits}
 use Rattle.wire.specs.Answer.{done, refusal}
 use Rattle.wire.specs.declared.Answer.{Answer}
+use Rattle.key.specs.declared.header.Key.{Key}
 use Rattle.key.specs.declared.piece.Piece.{Piece}
 use Rattle.key.specs.declared.piece.Piece.the-variants.{Record, Gap, Refused}
 
@@ -53,3 +54,9 @@ pieceAnswer s p =
     pick (all (sized s p))
     (pick (recordThere s p) (pick (all (recordFits s p)) (done (sizeAt s p)) (refusal 6 p)) (done (sizeAt s p)))
     (refusal 5 p)
+
+-- "whoever needs a record takes it apart and otherwise stops at once": what is said of its key, or bad for a gap and a refusal
+unfoldable pub onRecord : {A : Type 0} → A → (Key → A) → Piece → A
+onRecord bad f (Record k) = f k
+onRecord bad f (Gap n) = bad
+onRecord bad f (Refused c p) = bad
