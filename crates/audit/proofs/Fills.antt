@@ -9,7 +9,7 @@ use lib.ListN.{length, take, set, getD, replicate, length-map, length-replicate,
 use lib.Seq.{take-suc, take-all, length-take-le}
 use Rattle.wire.specs.Patch.{patch}
 use Rattle.wire.proofs.Patches.{length-patch, patch-nil, patch-set}
-use Rattle.layout.specs.declared.file.FileHead.{FileHead}
+use Rattle.fileheader.specs.declared.FileHead.{FileHead}
 use Rattle.rules.specs.Turn.{firstPart, firstParts}
 
 -- while a table is cleared: zeros up to a row

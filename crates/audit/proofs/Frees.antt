@@ -7,17 +7,17 @@ use native.Mathlib.Numerals.{add-one}
 use native.Mathlib.Omega.{arith}
 use borrow.Author.Tests.{eq-eqb, ne-eqb, le-leb}
 use Rattle.wire.specs.Number.{numAt}
-use Rattle.layout.proofs.Spans.{and-true}
+use Rattle.record.proofs.Tests.{and-true}
 use lib.Dec.{eqb}
 use lib.ListN.{length, getD, drop, drop-of-length-le}
 use lib.Seq.{drop-cons}
 use Rattle.wire.specs.Check.{le, eq, all, All}
 use Rattle.wire.proofs.Checks.{yes-all, not-all, all-yes}
 use Rattle.key.specs.Piece.{pieceAt}
-use Rattle.layout.specs.Keys.{freeIn, infoIn}
-use Rattle.layout.specs.declared.copies.Data.the-variants.{Held, Bad}
-use Rattle.layout.specs.declared.file.FileHead.{FileHead}
-use Rattle.layout.proofs.Records.{passed, fails}
+use Rattle.keylist.specs.Keys.{freeIn, infoIn}
+use Rattle.keylist.specs.declared.Data.the-variants.{Held, Bad}
+use Rattle.fileheader.specs.declared.FileHead.{FileHead}
+use Rattle.record.proofs.Tests.{passed, fails}
 use Rattle.rules.proofs.Rows.{start-there, no-start}
 use Rattle.rules.specs.Free.{gapOf, segmentFits, segmentsAre, freeData, freeHolds, infoHolds}
 use Rattle.audit.specs.Row.{RowOf}

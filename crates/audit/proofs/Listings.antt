@@ -15,10 +15,10 @@ use Rattle.key.specs.Piece.{pieceAt}
 use Rattle.key.specs.declared.header.Key.{Key}
 use Rattle.key.specs.declared.header.Header.the-variants.{Good, Bad}
 use Rattle.key.specs.declared.piece.Piece.the-variants.{Record}
-use Rattle.layout.specs.Keys.{copyIn}
+use Rattle.keylist.specs.Keys.{copyIn}
 use Rattle.wire.specs.Name.{tDirectory}
-use Rattle.layout.specs.Name.{sameBytes, named}
-use Rattle.layout.proofs.Records.{passed}
+use Rattle.record.specs.Name.{sameBytes, named}
+use Rattle.record.proofs.Tests.{passed}
 use Rattle.rules.specs.Entry.{isRecord, entryFits}
 use Rattle.rules.specs.Row.{starts, rowOf}
 use Rattle.rules.specs.Turn.{Turn, going, stop, andThen, give, listedMark, onCopy, copyTurn, copies}

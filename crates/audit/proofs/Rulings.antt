@@ -8,11 +8,11 @@ use lib.Dec.{T}
 use lib.ListN.{length, replicate, take, length-map, length-replicate}
 use native.Mathlib.Omega.{arith}
 use Rattle.key.specs.Piece.{pieceAt}
-use Rattle.layout.specs.Dir.{headIn}
-use Rattle.layout.specs.declared.dirs.Dir.the-variants as dir
-use Rattle.layout.specs.declared.dirs.DirHead.{DirHead}
-use Rattle.layout.specs.declared.file.FileHead.{FileHead}
-use Rattle.layout.proofs.Records.{passed}
+use Rattle.directory.specs.Dir.{headIn}
+use Rattle.directory.specs.declared.Dir.the-variants as dir
+use Rattle.directory.specs.declared.DirHead.{DirHead}
+use Rattle.fileheader.specs.declared.FileHead.{FileHead}
+use Rattle.record.proofs.Tests.{passed}
 use Rattle.rules.specs.Free.{gapOf, freeHolds, infoHolds}
 use Rattle.rules.specs.Order.{ruled}
 use Rattle.rules.specs.Turn.{firstPart, firstParts, rounds}

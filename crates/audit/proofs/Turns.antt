@@ -12,16 +12,15 @@ use lib.ListN.{length, getD, set, length-set}
 use lib.Seq.{getD-set-same, getD-set-other}
 use Rattle.wire.specs.Number.{numAt}
 use Rattle.wire.proofs.Checks.{yes-all, not-all, below-or}
-use Rattle.layout.specs.Dir.{headIn, subIn}
-use Rattle.layout.specs.Keys.{listIn}
-use Rattle.layout.specs.declared.copies.Data.{Data}
-use Rattle.layout.specs.declared.copies.Data.the-variants as span
-use Rattle.layout.specs.declared.dirs.Dir.{Dir}
-use Rattle.layout.specs.declared.dirs.Dir.the-variants as dir
-use Rattle.layout.specs.declared.dirs.DirHead.{DirHead}
-use Rattle.layout.specs.declared.file.FileHead.{FileHead}
+use Rattle.directory.specs.Dir.{headIn, subIn, dirOf, noKeys}
+use Rattle.keylist.specs.Keys.{listIn}
+use Rattle.keylist.specs.declared.Data.{Data}
+use Rattle.keylist.specs.declared.Data.the-variants as span
+use Rattle.directory.specs.declared.Dir.{Dir}
+use Rattle.directory.specs.declared.Dir.the-variants as dir
+use Rattle.directory.specs.declared.DirHead.{DirHead}
+use Rattle.fileheader.specs.declared.FileHead.{FileHead}
 use Rattle.rules.specs.Row.{starts, rowOf}
-use Rattle.rules.specs.Rules.{dirOf, noKeys}
 use Rattle.rules.specs.Turn.{Turn, going, stop, andThen, give, copies, ended, dataTurn, onData, keysIn, keysTurn, onDir, dirTurn, settle, roundTurn, nextRow, rounds}
 use Rattle.rules.proofs.Rows.{next-row-at, next-row-none, next-row, rounds-over, rounds-more}
 use Rattle.audit.specs.Listing.{Ran, NoneBelow, Done, DoneTo, Tables}

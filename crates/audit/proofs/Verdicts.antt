@@ -14,9 +14,9 @@ use Rattle.wire.specs.declared.Answer.{Answer}
 use Rattle.wire.proofs.Checks.{below-or}
 use Rattle.key.specs.Piece.{pieceAt}
 use Rattle.key.specs.declared.piece.Piece.the-variants as piece
-use Rattle.layout.specs.File.{openedAs}
-use Rattle.layout.specs.declared.file.FileHead.{FileHead}
-use Rattle.layout.specs.declared.file.Opened.the-variants as opened
+use Rattle.fileheader.specs.File.{openedAs}
+use Rattle.fileheader.specs.declared.FileHead.{FileHead}
+use Rattle.fileheader.specs.declared.Opened.the-variants as opened
 use Rattle.wire.specs.Number.{lesser}
 use Rattle.rules.specs.Order.{Chain, whole, chain, ruled, Verdict, passed, refused, onTurn, onChain, onOpened, verdict, numberOf, startsOf, partsOf, ownersOf, tableOf}
 use Rattle.rules.specs.Partition.{Partition}

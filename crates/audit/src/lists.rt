@@ -10,12 +10,12 @@ ghost use Rattle.rules.specs.Row.{Rising};
 use crate::rows::Row;
 use crate::rows::find_row;
 use crate::rows::long;
+use fileheader::FileHead;
 use key::piece::Piece;
 use key::piece::read_piece;
-use layout::copies::Data;
-use layout::copies::is_info;
-use layout::copies::read_free;
-use layout::file::FileHead;
+use keylist::Data;
+use keylist::is_info;
+use keylist::read_free;
 use wire::number::be16;
 use wire::number::be32;
 

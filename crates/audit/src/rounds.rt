@@ -2,16 +2,16 @@
 ghost use mathlib.Core.Path.{_≡_};
 ghost use Prim.Native.Nat.{_≤_, _<_};
 ghost use lib.ListN.{length, getD};
-ghost use Rattle.rules.specs.Rules.{dirOf};
+ghost use Rattle.directory.specs.Dir.{dirOf};
 ghost use Rattle.rules.specs.Turn.{dirTurn, roundTurn, nextRow, rounds};
 ghost use Rattle.audit.specs.Listing.{Ran, NoneBelow, Done, DoneTo, Tables};
 use crate::keys::Listed;
 use crate::keys::list_keys;
 use crate::rows::long;
-use layout::dirs::Dir;
-use layout::dirs::read_head;
-use layout::dirs::read_sub;
-use layout::file::FileHead;
+use directory::Dir;
+use directory::read_head;
+use directory::read_sub;
+use fileheader::FileHead;
 
 // The header of the directory at a place.
 fn read_dir(file: &[u8], head: FileHead, place: u32, parent: u32) -> Dir

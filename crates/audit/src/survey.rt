@@ -12,9 +12,9 @@ use crate::lists::check_info;
 use crate::lists::gap_size;
 use crate::rounds::list_dirs;
 use crate::rows::long;
-use layout::dirs::Dir;
-use layout::dirs::read_head;
-use layout::file::FileHead;
+use directory::Dir;
+use directory::read_head;
+use fileheader::FileHead;
 
 // Zeros from a row on.
 pub(crate) fn clear(table: &mut [u32], from: usize)

@@ -3,13 +3,13 @@ use Prim.Native.Nat.{ℕ, _+_, _≤_}
 use lib.ListN.{length}
 use mathlib.Core.List.{List, [], _∷_}
 use mathlib.Core.Logic.{⊎-elim}
-use mathlib.Core.Path.{_≡_, sym, ap, _∙_}
+use mathlib.Core.Path.{_≡_, refl, sym, ap, _∙_}
 use native.Mathlib.Omega.{arith}
 use denote.Enum.Declared.{tagOf}
 use types.Run.{OneOf}
 use Rattle.key.proofs.piece.Piece.{the-type}
 use Rattle.key.proofs.Pieces.{from-record}
-use Rattle.key.specs.Piece.{pieceAt, answerOf, pieceAnswer}
+use Rattle.key.specs.Piece.{pieceAt, answerOf, pieceAnswer, onRecord}
 use Rattle.key.specs.declared.header.Key.{Key}
 use Rattle.key.specs.declared.piece.Piece.{Piece}
 use Rattle.key.specs.declared.piece.Piece.the-variants.{Record, Gap, Refused}
@@ -40,3 +40,21 @@ record-there s p e =
 pub record-lies : (s : List ℕ) (p : ℕ) {r : Piece} {k : Key} → (r ≡ pieceAt s p) × (answerOf r ≡ pieceAnswer s p) → r ≡ Record k
     → (p + k .nbytes ≤ length s) × (k .keylen ≤ k .nbytes)
 record-lies s p e i = record-there s p (sym (e .0) ∙ i)
+
+-- what is said where no record was read, and of a record
+module _ {A : Type 0} (bad : A) (f : Key → A) {x : Piece} where
+  pub on-other : {r : Piece} → r ≡ x → OneOf (1 ∷ 2 ∷ []) (tagOf the-type r) → bad ≡ onRecord bad f x
+  unfolding onRecord
+  on-other {r} e h = no-record (λ (r : Piece). bad ≡ onRecord bad f r) r h (λ n. refl) (λ c q. refl) ∙ ap (onRecord bad f) e
+
+  pub on-record : {k : Key} {v : A} → x ≡ Record k → v ≡ f k → v ≡ onRecord bad f x
+  unfolding onRecord
+  on-record i h = rw i h
+
+-- and back: what is not bad was said of a record
+pub from-on : {A : Type 0} (bad : A) (f : Key → A) (x : Piece) {v : A} → v ≡ onRecord bad f x → (v ≡ bad → ⊥)
+    → (k : Key) × (x ≡ Record k) × (v ≡ f k)
+unfolding onRecord
+from-on bad f (Record k) e n = (k, refl, e)
+from-on bad f (Gap m) e n = absurd (n e)
+from-on bad f (Refused c q) e n = absurd (n e)

@@ -13,6 +13,7 @@ use Rattle.wire.specs.Answer.{done, refusal}
 use Rattle.wire.specs.declared.Answer.{Answer}
 use Rattle.key.specs.declared.header.Header.{Header}
 use Rattle.key.specs.declared.header.Header.the-variants.{Good, Bad}
+use Rattle.key.specs.declared.header.Key.{Key}
 use Rattle.key.specs.declared.piece.Piece.{Piece}
 use Rattle.key.specs.declared.piece.Piece.the-variants.{Record, Gap, Refused}
 
@@ -55,3 +56,9 @@ answerOf (Refused c p) = refusal c p
 -- the answer for the piece at p
 unfoldable pub pieceAnswer : List ℕ → ℕ → Answer
 pieceAnswer s p = answerOf (pieceAt s p)
+
+-- "whoever needs a record takes it apart and otherwise stops at once": what is said of its key, or bad for a gap and a refusal
+unfoldable pub onRecord : {A : Type 0} → A → (Key → A) → Piece → A
+onRecord bad f (Record k) = f k
+onRecord bad f (Gap n) = bad
+onRecord bad f (Refused c p) = bad

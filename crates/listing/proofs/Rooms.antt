@@ -9,10 +9,10 @@ use lib.Dec.{leb}
 use lib.ListN.{length, length-append, length-replicate}
 use Rattle.wire.specs.Check.{pick}
 use Rattle.wire.specs.declared.Answer.{Answer}
-use Rattle.layout.specs.File.{openedAs}
-use Rattle.layout.specs.declared.file.FileHead.{FileHead}
-use Rattle.layout.specs.declared.file.Opened.{Opened}
-use Rattle.layout.specs.declared.file.Opened.the-variants.{Good, Refused}
+use Rattle.fileheader.specs.File.{openedAs}
+use Rattle.fileheader.specs.declared.FileHead.{FileHead}
+use Rattle.fileheader.specs.declared.Opened.{Opened}
+use Rattle.fileheader.specs.declared.Opened.the-variants.{Good, Refused}
 use Rattle.rules.specs.Order.{Chain, whole, fault, chain, ruled, Verdict, refused, onTurn, onChain, onOpened, verdict, startsOf, tableOf}
 use Rattle.rules.specs.Turn.{Turn, going, stop}
 use Rattle.report.specs.Report.{rowsOf, reportOf}

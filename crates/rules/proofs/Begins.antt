@@ -5,7 +5,7 @@ use mathlib.Core.Logic.{_⊎_, inl, ⊎-elim}
 use mathlib.Core.Path.{_≡_, refl, sym, ap, _∙_, subst}
 use native.Mathlib.Omega.{arith}
 use lib.ListN.{length, getD, replicate, length-replicate}
-use Rattle.layout.specs.declared.file.FileHead.{FileHead}
+use Rattle.fileheader.specs.declared.FileHead.{FileHead}
 use Rattle.rules.specs.Partition.{Partition}
 use Rattle.rules.specs.Rules.{Directory}
 use Rattle.rules.specs.Turn.{firstPart, firstParts}

@@ -13,9 +13,9 @@ use Rattle.key.specs.Piece.{pieceAt, sizeOf}
 use Rattle.key.specs.declared.piece.Piece.{Piece}
 use Rattle.key.specs.declared.piece.Piece.the-variants.{Record, Gap, Refused}
 use Rattle.key.proofs.Pieces.{size-fits, from-gap, from-refused, refused-number, record-sized}
-use Rattle.layout.specs.File.{openedAs, fileHead, longEnough, magic, narrow, bounds}
-use Rattle.layout.specs.declared.file.FileHead.{FileHead}
-use Rattle.layout.specs.declared.file.Opened.the-variants as opened
+use Rattle.fileheader.specs.File.{openedAs, fileHead, longEnough, magic, narrow, bounds}
+use Rattle.fileheader.specs.declared.FileHead.{FileHead}
+use Rattle.fileheader.specs.declared.Opened.the-variants as opened
 use Rattle.rules.specs.Order.{Chain, whole, fault, prepend, onPiece, chain}
 use Rattle.rules.specs.Partition.{Partition}
 

@@ -9,13 +9,13 @@ use borrow.Author.Tests.{le-leb, lt-leb, leb-true, leb-false}
 use lib.Dec.{leb}
 use lib.ListN.{length, replicate}
 use Rattle.wire.specs.Check.{pick}
-use Rattle.layout.specs.Dir.{headIn}
-use Rattle.layout.specs.File.{openedAs}
-use Rattle.layout.specs.declared.dirs.Dir.{Dir}
-use Rattle.layout.specs.declared.dirs.Dir.the-variants as dir
-use Rattle.layout.specs.declared.file.FileHead.{FileHead}
-use Rattle.layout.specs.declared.file.Opened.{Opened}
-use Rattle.layout.specs.declared.file.Opened.the-variants as opened
+use Rattle.directory.specs.Dir.{headIn}
+use Rattle.fileheader.specs.File.{openedAs}
+use Rattle.directory.specs.declared.Dir.{Dir}
+use Rattle.directory.specs.declared.Dir.the-variants as dir
+use Rattle.fileheader.specs.declared.FileHead.{FileHead}
+use Rattle.fileheader.specs.declared.Opened.{Opened}
+use Rattle.fileheader.specs.declared.Opened.the-variants as opened
 use Rattle.rules.specs.Demand.{Partitioned, Passes, Unfinished, Demand}
 use Rattle.rules.specs.Free.{freeHolds, infoHolds}
 use Rattle.rules.specs.Order.{Chain, whole, fault, chain, onHead, ruled, passed, refused, verdict, numberOf}

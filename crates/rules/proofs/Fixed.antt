@@ -6,7 +6,7 @@ use mathlib.Core.Path.{_≡_, refl}
 use borrow.Author.Tests.{ne-eqb, eqb-true, eqb-false}
 use lib.Dec.{eqb}
 use Rattle.key.specs.Piece.{pieceAt}
-use Rattle.layout.specs.declared.file.FileHead.{FileHead}
+use Rattle.fileheader.specs.declared.FileHead.{FileHead}
 use Rattle.rules.specs.Free.{gapOf}
 use Rattle.rules.specs.Turn.{firstPart}
 

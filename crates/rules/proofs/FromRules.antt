@@ -7,13 +7,14 @@ use native.Mathlib.Omega.{arith}
 use lib.ListN.{length, getD}
 use Rattle.wire.specs.Check.{All}
 use Rattle.key.specs.declared.header.Key.{Key}
-use Rattle.layout.specs.declared.dirs.Dir.the-variants as dir
-use Rattle.layout.specs.declared.dirs.DirHead.{DirHead}
-use Rattle.layout.specs.declared.file.FileHead.{FileHead}
+use Rattle.directory.specs.declared.Dir.the-variants as dir
+use Rattle.directory.specs.declared.DirHead.{DirHead}
+use Rattle.fileheader.specs.declared.FileHead.{FileHead}
 use Rattle.rules.specs.Entry.{listedPart}
 use Rattle.rules.specs.Partition.{Partition}
 use Rattle.rules.specs.Row.{rowOf}
-use Rattle.rules.specs.Rules.{Rules, In, Directory, Listed, Leads, root, up, DirectoryAt, KeysAre, Filled, noKeys, places, dirOf}
+use Rattle.rules.specs.Rules.{Rules, In, Directory, Listed, Leads, root, up, DirectoryAt, KeysAre, Filled, places}
+use Rattle.directory.specs.Dir.{noKeys, dirOf}
 use Rattle.rules.specs.Turn.{firstPart, listedMark}
 use Rattle.rules.proofs.Directories.{graph, below-first}
 use Rattle.rules.proofs.Fixed.{Place, head, free, info, gap, other, place}

@@ -9,19 +9,18 @@ use Rattle.wire.specs.Check.{all, pick}
 use Rattle.wire.specs.Number.{numAt}
 use Rattle.key.specs.declared.header.Header.{Header}
 use Rattle.key.specs.declared.header.Header.the-variants.{Good, Bad}
-use Rattle.layout.specs.Dir.{headIn}
-use Rattle.layout.specs.Keys.{copyIn}
-use Rattle.layout.specs.declared.copies.Data.{Data}
-use Rattle.layout.specs.declared.copies.Data.the-variants as span
-use Rattle.layout.specs.declared.dirs.Dir.{Dir}
-use Rattle.layout.specs.declared.dirs.Dir.the-variants as dir
-use Rattle.layout.specs.declared.dirs.DirHead.{DirHead}
-use Rattle.layout.specs.declared.file.FileHead.{FileHead}
+use Rattle.directory.specs.Dir.{headIn, dirOf, noKeys}
+use Rattle.keylist.specs.Keys.{copyIn}
+use Rattle.keylist.specs.declared.Data.{Data}
+use Rattle.keylist.specs.declared.Data.the-variants as span
+use Rattle.directory.specs.declared.Dir.{Dir}
+use Rattle.directory.specs.declared.Dir.the-variants as dir
+use Rattle.directory.specs.declared.DirHead.{DirHead}
+use Rattle.fileheader.specs.declared.FileHead.{FileHead}
 use Rattle.rules.specs.Entry.{entryFits}
 use Rattle.rules.specs.Free.{freeHolds, infoHolds}
 use Rattle.rules.specs.Order.{onHead, ruled}
 use Rattle.rules.specs.Row.{rowOf}
-use Rattle.rules.specs.Rules.{dirOf, noKeys}
 use Rattle.rules.specs.Turn.{Turn, going, stop, andThen, give, listedMark, onCopy, copyTurn, copies, ended, dataTurn, onData, keysIn, keysTurn, onDir, dirTurn, settle, roundTurn, nextRow, rounds, firstParts}
 
 abbrev pub Late : Turn → Type 0

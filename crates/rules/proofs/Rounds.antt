@@ -9,7 +9,7 @@ use borrow.Author.Tests.{ltb-true, ltb-false}
 use lib.Dec.{ltb}
 use lib.ListN.{length, getD, set}
 use Rattle.wire.specs.Check.{pick}
-use Rattle.layout.specs.declared.file.FileHead.{FileHead}
+use Rattle.fileheader.specs.declared.FileHead.{FileHead}
 use Rattle.rules.specs.Partition.{Partition}
 use Rattle.rules.specs.Turn.{going, andThen, settle, dirTurn, roundTurn, nextRow, rounds}
 use Rattle.rules.proofs.Agreement.{Agree, gives, says, goes-on, agrees, equal}

@@ -8,7 +8,7 @@ use borrow.Author.Tests.{eq-eqb, ne-eqb, le-leb, lt-leb, leb-true, leb-false, lt
 use lib.Dec.{eqb, leb}
 use lib.ListN.{length, getD}
 use Rattle.wire.specs.Check.{pick}
-use Rattle.layout.specs.declared.file.FileHead.{FileHead}
+use Rattle.fileheader.specs.declared.FileHead.{FileHead}
 use Rattle.rules.specs.Row.{Rising, starts, rowOf}
 use Rattle.rules.specs.Turn.{going, andThen, nextRow, roundTurn, rounds}
 

@@ -15,16 +15,17 @@ use Rattle.wire.proofs.Checks.{yes-all, not-all, all-or, false-true}
 use Rattle.key.specs.declared.header.Key.{Key}
 use Rattle.key.specs.declared.header.Header.{Header}
 use Rattle.key.specs.declared.header.Header.the-variants.{Good, Bad}
-use Rattle.layout.specs.Keys.{listIn, copyIn}
-use Rattle.layout.specs.declared.copies.Data.{Data}
-use Rattle.layout.specs.declared.copies.Data.the-variants as span
-use Rattle.layout.specs.declared.dirs.Dir.{Dir}
-use Rattle.layout.specs.declared.dirs.Dir.the-variants as dir
-use Rattle.layout.specs.declared.dirs.DirHead.{DirHead}
-use Rattle.layout.specs.declared.file.FileHead.{FileHead}
+use Rattle.keylist.specs.Keys.{listIn, copyIn}
+use Rattle.keylist.specs.declared.Data.{Data}
+use Rattle.keylist.specs.declared.Data.the-variants as span
+use Rattle.directory.specs.declared.Dir.{Dir}
+use Rattle.directory.specs.declared.Dir.the-variants as dir
+use Rattle.directory.specs.declared.DirHead.{DirHead}
+use Rattle.fileheader.specs.declared.FileHead.{FileHead}
 use Rattle.rules.specs.Entry.{entryFits}
 use Rattle.rules.specs.Row.{starts, rowOf}
-use Rattle.rules.specs.Rules.{dirOf, noKeys, Copies, Entries, Filled}
+use Rattle.directory.specs.Dir.{dirOf, noKeys}
+use Rattle.rules.specs.Rules.{Copies, Entries, Filled}
 use Rattle.rules.specs.Turn.{Turn, going, stop, andThen, give, listedMark, onCopy, copyTurn, copies, ended, dataTurn, onData, keysIn, keysTurn, onDir, dirTurn}
 use Rattle.rules.proofs.Items.{Item, item, Assign}
 

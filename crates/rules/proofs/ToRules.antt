@@ -9,16 +9,16 @@ use lib.ListN.{length, getD}
 use Rattle.wire.specs.Check.{All}
 use Rattle.key.specs.Piece.{pieceAt}
 use Rattle.key.specs.declared.header.Key.{Key}
-use Rattle.layout.specs.Dir.{headIn}
+use Rattle.directory.specs.Dir.{headIn, noKeys, dirOf}
 use Rattle.wire.specs.Name.{tFile, tList}
-use Rattle.layout.specs.declared.dirs.Dir.the-variants as dir
-use Rattle.layout.specs.declared.dirs.DirHead.{DirHead}
-use Rattle.layout.specs.declared.file.FileHead.{FileHead}
+use Rattle.directory.specs.declared.Dir.the-variants as dir
+use Rattle.directory.specs.declared.DirHead.{DirHead}
+use Rattle.fileheader.specs.declared.FileHead.{FileHead}
 use Rattle.rules.specs.Entry.{listedPart}
 use Rattle.rules.specs.Free.{gapOf, freeHolds, infoHolds}
 use Rattle.rules.specs.Partition.{Partition}
 use Rattle.rules.specs.Row.{starts, rowOf}
-use Rattle.rules.specs.Rules.{Rules, In, Distinct, Directory, Listed, DirectoryAt, KeysOf, Lists, KeysAre, Filled, noKeys, places, dirOf}
+use Rattle.rules.specs.Rules.{Rules, In, Distinct, Directory, Listed, DirectoryAt, KeysOf, Lists, KeysAre, Filled, places}
 use Rattle.rules.specs.Turn.{firstPart, listedMark}
 use Rattle.rules.proofs.Classes.{Named, no-gap, two-records, head-file, free-file, info-list}
 use Rattle.rules.proofs.Directories.{graph, zero-place, below-first, same-keys}

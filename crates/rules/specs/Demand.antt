@@ -4,9 +4,9 @@ use Prim.Native.Nat.{ℕ, _≤_, _<_}
 use mathlib.Core.List.{List}
 use mathlib.Core.Path.{_≡_}
 use lib.ListN.{length}
-use Rattle.layout.specs.File.{openedAs}
-use Rattle.layout.specs.declared.file.FileHead.{FileHead}
-use Rattle.layout.specs.declared.file.Opened.the-variants.{Good}
+use Rattle.fileheader.specs.File.{openedAs}
+use Rattle.fileheader.specs.declared.FileHead.{FileHead}
+use Rattle.fileheader.specs.declared.Opened.the-variants.{Good}
 use Rattle.rules.specs.Order.{passed, refused, verdict, numberOf}
 use Rattle.rules.specs.Partition.{Partition}
 use Rattle.rules.specs.Rules.{Rules}

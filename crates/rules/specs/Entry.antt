@@ -8,7 +8,7 @@ use Rattle.key.specs.declared.header.Key.{Key}
 use Rattle.key.specs.declared.piece.Piece.{Piece}
 use Rattle.key.specs.declared.piece.Piece.the-variants.{Record, Gap, Refused}
 use Rattle.wire.specs.Name.{tDirectory}
-use Rattle.layout.specs.Name.{sameBytes, named}
+use Rattle.record.specs.Name.{sameBytes, named}
 use Rattle.rules.specs.Row.{starts}
 
 abbrev pub isRecord : Piece → Bool

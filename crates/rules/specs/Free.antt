@@ -9,10 +9,10 @@ use Rattle.wire.specs.Number.{numAt}
 use Rattle.key.specs.Piece.{pieceAt}
 use Rattle.key.specs.declared.piece.Piece.{Piece}
 use Rattle.key.specs.declared.piece.Piece.the-variants.{Record, Gap, Refused}
-use Rattle.layout.specs.Keys.{freeIn, infoIn}
-use Rattle.layout.specs.declared.copies.Data.{Data}
-use Rattle.layout.specs.declared.copies.Data.the-variants.{Held, Bad}
-use Rattle.layout.specs.declared.file.FileHead.{FileHead}
+use Rattle.keylist.specs.Keys.{freeIn, infoIn}
+use Rattle.keylist.specs.declared.Data.{Data}
+use Rattle.keylist.specs.declared.Data.the-variants.{Held, Bad}
+use Rattle.fileheader.specs.declared.FileHead.{FileHead}
 use Rattle.rules.specs.Row.{starts}
 
 -- the size of a gap, 0 for any other piece

@@ -7,13 +7,13 @@ use Rattle.wire.specs.Check.{pick}
 use Rattle.key.specs.Piece.{pieceAt}
 use Rattle.key.specs.declared.piece.Piece.{Piece}
 use Rattle.key.specs.declared.piece.Piece.the-variants.{Record, Gap, Refused}
-use Rattle.layout.specs.Dir.{headIn}
-use Rattle.layout.specs.File.{openedAs}
-use Rattle.layout.specs.declared.dirs.Dir.{Dir}
-use Rattle.layout.specs.declared.dirs.Dir.the-variants as dir
-use Rattle.layout.specs.declared.file.FileHead.{FileHead}
-use Rattle.layout.specs.declared.file.Opened.{Opened}
-use Rattle.layout.specs.declared.file.Opened.the-variants as opened
+use Rattle.directory.specs.Dir.{headIn}
+use Rattle.fileheader.specs.File.{openedAs}
+use Rattle.directory.specs.declared.Dir.{Dir}
+use Rattle.directory.specs.declared.Dir.the-variants as dir
+use Rattle.fileheader.specs.declared.FileHead.{FileHead}
+use Rattle.fileheader.specs.declared.Opened.{Opened}
+use Rattle.fileheader.specs.declared.Opened.the-variants as opened
 use Rattle.rules.specs.Free.{freeHolds, infoHolds}
 use Rattle.rules.specs.Turn.{Turn, going, stop, rounds, firstParts}
 

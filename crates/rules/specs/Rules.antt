@@ -6,20 +6,18 @@ use mathlib.Core.Bool.{true}
 use mathlib.Core.List.{List, [], _∷_, map}
 use mathlib.Core.Logic.{_⊎_}
 use mathlib.Core.Path.{_≡_}
-use lib.Dec.{eqb}
 use lib.ListN.{length, getD}
-use Rattle.wire.specs.Check.{Check, eq, All, pick}
+use Rattle.wire.specs.Check.{All}
 use Rattle.wire.specs.Number.{numAt}
 use Rattle.key.specs.Piece.{pieceAt}
 use Rattle.key.specs.declared.header.Key.{Key}
 use Rattle.key.specs.declared.header.Header.the-variants.{Good}
-use Rattle.layout.specs.Dir.{headIn, subIn}
-use Rattle.layout.specs.Keys.{listIn, copyIn}
-use Rattle.layout.specs.declared.copies.Data.the-variants as span
-use Rattle.layout.specs.declared.dirs.Dir.{Dir}
-use Rattle.layout.specs.declared.dirs.Dir.the-variants.{Held}
-use Rattle.layout.specs.declared.dirs.DirHead.{DirHead}
-use Rattle.layout.specs.declared.file.FileHead.{FileHead}
+use Rattle.directory.specs.Dir.{headIn, dirOf, noKeys}
+use Rattle.keylist.specs.Keys.{listIn, copyIn}
+use Rattle.keylist.specs.declared.Data.the-variants as span
+use Rattle.directory.specs.declared.Dir.the-variants.{Held}
+use Rattle.directory.specs.declared.DirHead.{DirHead}
+use Rattle.fileheader.specs.declared.FileHead.{FileHead}
 use Rattle.rules.specs.Entry.{entryFits, listedPart}
 use Rattle.rules.specs.Free.{gapOf, freeHolds, infoHolds}
 use Rattle.rules.specs.Row.{starts}
@@ -35,10 +33,6 @@ abbrev pub Distinct : List ℕ → Type 0
 Distinct [] = Unit
 Distinct (p ∷ ps) = (In p ps → ⊥) × Distinct ps
 
--- Directory header: the head's for the directory at 100, else that of a subdirectory, with its listing directory's place
-unfoldable pub dirOf : List ℕ → FileHead → ℕ → ℕ → Dir
-dirOf s h p parent = pick (eqb p 100) (headIn s (h .nbytesname)) (subIn s p parent)
-
 -- Keys list: plain header copies from c on, nothing after
 abbrev pub Copies : List ℕ → ℕ → ℕ → List Key → Type 0
 Copies s end c [] = c ≡ end
@@ -49,11 +43,7 @@ abbrev pub Entries : List ℕ → List ℕ → ℕ → ℕ → List Key → Type
 Entries s qs d c [] = Unit
 Entries s qs d c (k ∷ ks) = All (entryFits s qs d c k) × Entries s qs d (c + k .keylen) ks
 
--- Keys list: SeekKeys and NbytesKeys both 0 (an empty directory)
-abbrev pub noKeys : DirHead → List Check
-noKeys dh = eq (dh .seekkeys) 0 ∷ eq (dh .nbyteskeys) 0 ∷ []
-
--- or start and size of the list's record, and its data NKeys, then exactly NKeys copies
+-- Keys list: start and size of the list's record, and its data NKeys, then exactly NKeys copies
 pub record Filled (s qs : List ℕ) (d : ℕ) (dh : DirHead) (ks : List Key) : Type 0 where
   pub from : ℕ
   pub end : ℕ

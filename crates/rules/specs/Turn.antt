@@ -9,17 +9,17 @@ use Rattle.wire.specs.Number.{numAt}
 use Rattle.key.specs.Piece.{pieceAt}
 use Rattle.key.specs.declared.header.Header.{Header}
 use Rattle.key.specs.declared.header.Header.the-variants.{Good, Bad}
-use Rattle.layout.specs.Keys.{listIn, copyIn}
-use Rattle.layout.specs.declared.copies.Data.{Data}
-use Rattle.layout.specs.declared.copies.Data.the-variants as span
-use Rattle.layout.specs.declared.dirs.Dir.{Dir}
-use Rattle.layout.specs.declared.dirs.Dir.the-variants as dir
-use Rattle.layout.specs.declared.dirs.DirHead.{DirHead}
-use Rattle.layout.specs.declared.file.FileHead.{FileHead}
+use Rattle.keylist.specs.Keys.{listIn, copyIn}
+use Rattle.keylist.specs.declared.Data.{Data}
+use Rattle.keylist.specs.declared.Data.the-variants as span
+use Rattle.directory.specs.declared.Dir.{Dir}
+use Rattle.directory.specs.declared.Dir.the-variants as dir
+use Rattle.directory.specs.declared.DirHead.{DirHead}
+use Rattle.fileheader.specs.declared.FileHead.{FileHead}
 use Rattle.rules.specs.Entry.{entryFits, dirClass}
 use Rattle.rules.specs.Free.{gapOf}
 use Rattle.rules.specs.Row.{starts, rowOf}
-use Rattle.rules.specs.Rules.{dirOf, noKeys}
+use Rattle.directory.specs.Dir.{dirOf, noKeys}
 
 -- the parts and owners given so far, and the next place of a list; or the number and place of the first refusal
 pub data Turn : Type 0 where

@@ -8,8 +8,9 @@ use native.Mathlib.Omega.{arith}
 use lib.ListN.{length, take, drop, getD, length-drop}
 use lib.Seq.{getD-drop, drop-drop, drop-at, take-at, drop-cons, length-take-le}
 use Rattle.wire.specs.Check.{Check, le, Holds, All}
-use Rattle.wire.specs.Text.{textSize, lengthFits, textOf, textAt, textFits, textIn, contentOf, textBytes}
+use Rattle.wire.specs.Text.{textSize, lengthFits, textOf, textAt, textFits, textIn, contentOf, textBytes, onText}
 use Rattle.wire.specs.declared.text.Text.{Text}
+use Rattle.wire.specs.declared.text.Found.{Found}
 use Rattle.wire.specs.declared.text.Found.the-variants.{Held, Cut}
 use Rattle.wire.proofs.Checks.{picked, not-picked, from-picked, from-not-picked}
 
@@ -111,3 +112,13 @@ module _ {s : List ℕ} {q end : ℕ} {t : Text} (h : Stands s q end t) where
 
   pub read-again : textBytes (contentOf s t) ≡ take (textSize (t .len)) (drop q s)
   read-again = rw (h .is) (text-again s q there)
+
+-- what is said where the string is cut, and of a string that is there
+module _ {A : Type 0} (bad : A) (f : Text → A) {x : Found} where
+  pub on-cut : x ≡ Cut → bad ≡ onText bad f x
+  unfolding onText
+  on-cut e = rw e
+
+  pub on-text : {t : Text} {v : A} → x ≡ Held t → v ≡ f t → v ≡ onText bad f x
+  unfolding onText
+  on-text e h = rw e h

@@ -38,3 +38,8 @@ contentOf s t = take (t .len) (drop (t .start) s)
 -- a string as it is written
 unfoldable pub textBytes : List ℕ → List ℕ
 textBytes t = length t ∷ t
+
+-- what is said of a string that is there, or bad where it is cut
+unfoldable pub onText : {A : Type 0} → A → (Text → A) → Found → A
+onText bad f (Held t) = f t
+onText bad f Cut = bad

@@ -4,7 +4,7 @@ use denote.Ref.{now}
 use lib.ListN.{length-set}
 use mathlib.Core.Path.{ap}
 use Rattle.rules.specs.Turn.{stop}
-use Rattle.layout.proofs.Records.{list-lies}
+use Rattle.keylist.proofs.Records.{list-lies}
 use Rattle.audit.proofs.Listings.{faulted, sought, no-row, tables-set}
 use Rattle.audit.proofs.Turns.{no-keys, keys-nowhere, keys-bad, keys-taken, keys-given, keys-ran, nothing-new}
 use borrow.Author.Needs.{needs}
@@ -13,7 +13,7 @@ use Rattle.audit.proofs.keys.list_keys.Tie as tie
 use Rattle.audit.proofs.keys.list_data.Reads as list-data-reads
 use Rattle.audit.proofs.rows.find_row.Reads as find-row-reads
 use Rattle.audit.proofs.rows.long.Reads as long-reads
-use Rattle.layout.proofs.copies.read_list.Reads as read-list-reads
+use Rattle.keylist.proofs.read_list.Reads as read-list-reads
 
 cast-if1 : tie.Need-cast-if1
 cast-if1 c = search needs

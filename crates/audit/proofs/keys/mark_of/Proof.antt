@@ -2,7 +2,7 @@ use Rattle.audit.proofs.Listings.{marked, not-marked}
 use borrow.Author.Needs.{needs}
 use Rattle.audit.proofs.keys.mark_of.Statement.{statement}
 use Rattle.audit.proofs.keys.mark_of.Tie as tie
-use Rattle.layout.proofs.names.is_directory.Reads as is-directory-reads
+use Rattle.record.proofs.is_directory.Reads as is-directory-reads
 
 is-directory-requires : tie.Need-is-directory-requires
 is-directory-requires c κs = search needs

@@ -3,7 +3,8 @@ use mathlib.Core.Bool.{false}
 use mathlib.Core.Path.{refl, sym, _∙_}
 use denote.Ref.{now}
 use Rattle.key.proofs.Others.{if-other}
-use Rattle.layout.proofs.Records.{failed, copy-lies}
+use Rattle.record.proofs.Tests.{failed}
+use Rattle.keylist.proofs.Records.{copy-lies}
 use Rattle.rules.specs.Entry.{isRecord}
 use Rattle.audit.proofs.Listings.{sought, no-row, never, mark-is, entry, copy-stopped, given, copy-bad, copy-wrong, copy-taken, copy-given}
 use borrow.Author.Needs.{needs}
@@ -12,8 +13,8 @@ use Rattle.audit.proofs.keys.one_copy.Tie as tie
 use Rattle.audit.proofs.keys.mark_of.Reads as mark-of-reads
 use Rattle.audit.proofs.rows.seek_row.Reads as seek-row-reads
 use Rattle.key.proofs.piece.read_piece.Reads as read-piece-reads
-use Rattle.layout.proofs.copies.read_copy.Reads as read-copy-reads
-use Rattle.layout.proofs.names.same_at.Reads as same-at-reads
+use Rattle.keylist.proofs.read_copy.Reads as read-copy-reads
+use Rattle.record.proofs.same_at.Reads as same-at-reads
 
 read-copy-requires : tie.Need-read-copy-requires
 read-copy-requires c κs = search needs

@@ -4,7 +4,7 @@ use denote.Ref.{now}
 use Prim.Native.Nat.{_-_}
 use mathlib.Core.Path.{_∙_, sym}
 use Rattle.audit.proofs.Frees.{free-is-head, free-nowhere, free-bad, free-count, free-segments}
-use Rattle.layout.proofs.Records.{free-lies}
+use Rattle.keylist.proofs.Records.{free-lies}
 use Rattle.audit.proofs.lists.check_free.Statement.{statement}
 use Rattle.audit.proofs.lists.check_free.Tie as tie
 

@@ -3,8 +3,8 @@ use borrow.Author.Needs.{needs}
 use Rattle.audit.proofs.rounds.read_dir.Statement.{statement}
 use Rattle.audit.proofs.rounds.read_dir.Tie as tie
 use Rattle.audit.proofs.rows.long.Reads as long-reads
-use Rattle.layout.proofs.dirs.read_head.Reads as read-head-reads
-use Rattle.layout.proofs.dirs.read_sub.Reads as read-sub-reads
+use Rattle.directory.proofs.read_head.Reads as read-head-reads
+use Rattle.directory.proofs.read_sub.Reads as read-sub-reads
 
 read-head-requires : tie.Need-read-head-requires
 read-head-requires c κs = search needs

@@ -1,0 +1,142 @@
+use Prim.Native.Nat.{_+_, _<_, _≤_}
+use native.Mathlib.Omega.{arith}
+use borrow.Author.Needs.{needs}
+use denote.Ref.{now}
+use mathlib.Core.Path.{_≡_, _∙_, sym}
+use Rattle.wire.specs.Check.{All}
+use Rattle.wire.proofs.Checks.{picked, not-picked}
+use Rattle.key.specs.Header.{unpackedData}
+use Rattle.key.specs.Piece.{pieceAt}
+use Rattle.key.specs.declared.header.Key.{Key}
+use Rattle.key.specs.declared.piece.Piece.the-variants.{Record}
+use Rattle.key.proofs.Others.{on-other, on-record, record-there}
+use Rattle.record.proofs.Tests.{fails, passes-all}
+use Rattle.directory.specs.Dir.{dirIn, keptIf, subFits, subIn}
+use Rattle.directory.specs.declared.Dir.{Dir}
+use Rattle.directory.specs.declared.Dir.the-variants as dir
+use Rattle.directory.proofs.Headings.{none-kept, not-kept, kept}
+use Rattle.directory.proofs.read_sub.Statement.{statement}
+use Rattle.directory.proofs.read_sub.Tie as tie
+
+-- the record that was read, and that it lies in the file
+abbrev key : tie.After-k → Key
+key c = c .k .given .0 .0
+
+abbrev start : tie.After-k → tie.Start
+start c = c .before .before .before .before
+
+there : (c : tie.After-k) → pieceAt (now (start c .args .file)) (start c .args .at) ≡ Record (key c)
+there c = sym (c .before .before .read-piece .ensures .0) ∙ c .k .given .1
+
+lies : (c : tie.After-k) → (start c .args .at + key c .nbytes < 18446744073709551616) × (key c .keylen ≤ key c .nbytes)
+lies c = let l = record-there _ _ (there c) in (omega arith, l .1)
+
+-- an unpacked record: what its header gives
+abbrev back : tie.Else1 → tie.After-k
+back c = c .before .before .before
+
+after-key : (c : tie.Else1) {v : Dir}
+    → v ≡ keptIf (subFits (start (back c) .args .at) (start (back c) .args .parent) (key (back c)))
+    (dirIn (now (start (back c) .args .file)) (start (back c) .args .at + key (back c) .keylen) (start (back c) .args .at + key (back c) .nbytes))
+    → v ≡ subIn (now (start (back c) .args .file)) (start (back c) .args .at) (start (back c) .args .parent)
+unfolding subIn
+after-key c h =
+    let u = unpackedData (key (back c)) in
+    on-record _ _ (there (back c)) (h ∙ sym (picked u _ _ (passes-all u (c .before .is-unpacked .ensures) (c .if1 .left))))
+
+abbrev unpacked : tie.After-d → tie.Else1
+unpacked c = c .before .before .before .before .before
+
+-- a header that fails a test
+refused : (c : tie.After-d)
+    → (All (subFits (start (back (unpacked c)) .args .at) (start (back (unpacked c)) .args .parent) (key (back (unpacked c))) (c .d .given .0 .0)) → ⊥)
+    → dir.Bad ≡ subIn (now (start (back (unpacked c)) .args .file)) (start (back (unpacked c)) .args .at) (start (back (unpacked c)) .args .parent)
+refused c h = after-key (unpacked c) (not-kept _ (sym (c .before .before .read-dir .ensures) ∙ c .d .given .1) h)
+
+read-piece-requires : tie.Need-read-piece-requires
+read-piece-requires c κs = search needs
+
+enum-known-k : tie.Need-enum-known-k
+enum-known-k c = search needs
+
+returns : tie.Need-returns
+unfolding subIn
+returns c = on-other _ _ (c .before .read-piece .ensures .0) (c .match .keys2)
+
+is-unpacked-requires : tie.Need-is-unpacked-requires
+is-unpacked-requires c κs = search needs
+
+returns-2 : tie.Need-returns-2
+unfolding subIn
+returns-2 c =
+    let k = c .before .before .before in
+    let u = unpackedData (key k) in
+    on-record _ _ (there k) (sym (not-picked u _ _ (fails u (c .before .is-unpacked .ensures) (c .if1 .taken))))
+
+cast-read-dir : tie.Need-cast-read-dir
+cast-read-dir c = search needs
+
+add-read-dir : tie.Need-add-read-dir
+add-read-dir c = let l = lies (back (c .before)) in omega arith
+
+cast-read-dir-2 : tie.Need-cast-read-dir-2
+cast-read-dir-2 c = search needs
+
+add-read-dir-2 : tie.Need-add-read-dir-2
+add-read-dir-2 c = let l = lies (back (c .before .before)) in omega arith
+
+read-dir-requires : tie.Need-read-dir-requires
+read-dir-requires c κs = search needs
+
+enum-known-d : tie.Need-enum-known-d
+enum-known-d c = search needs
+
+enum-told : tie.Need-enum-told
+enum-told c = search needs
+
+returns-3 : tie.Need-returns-3
+returns-3 c = after-key (c .before .before .before .before .before) (none-kept _ (sym (c .before .before .read-dir .ensures) ∙ c .enum-told .given .1))
+
+cast-if2 : tie.Need-cast-if2
+cast-if2 c = search needs
+
+returns-4 : tie.Need-returns-4
+returns-4 c = refused (c .before .before .before) (λ h. omega (arith, h))
+
+cast-if3 : tie.Need-cast-if3
+cast-if3 c = search needs
+
+returns-5 : tie.Need-returns-5
+returns-5 c = refused (c .before .before .before .before .before) (λ h. omega (arith, h))
+
+returns-6 : tie.Need-returns-6
+returns-6 c = refused (c .before .before .before .before .before .before .before .before) (λ h. omega (arith, h))
+
+returns-7 : tie.Need-returns-7
+returns-7 c =
+    let d = c .before .before .before .before .before .before .before .before in
+    after-key (unpacked d) (kept _ (sym (d .before .before .read-dir .ensures) ∙ d .d .given .1) (omega arith))
+
+pub read-sub-spec : {M : Type 1} → statement M
+read-sub-spec =
+    tie.close
+    (tie.spec
+    read-piece-requires
+    enum-known-k
+    returns
+    is-unpacked-requires
+    returns-2
+    cast-read-dir
+    add-read-dir
+    cast-read-dir-2
+    add-read-dir-2
+    read-dir-requires
+    enum-known-d
+    enum-told
+    returns-3
+    cast-if2
+    returns-4
+    cast-if3
+    returns-5
+    returns-6
+    returns-7)

@@ -1,0 +1,52 @@
+-- The file header: document 01, "The header, 100 bytes" and the rule Header.
+use Prim.Native.Nat.{ℕ}
+use mathlib.Core.List.{List, [], _∷_}
+use lib.ListN.{length, getD}
+use Rattle.wire.specs.Check.{Check, le, lt, eq, all, pick}
+use Rattle.wire.specs.Layout.{offsetWidth, valuesAt}
+use Rattle.fileheader.specs.declared.FileHead.{FileHead}
+use Rattle.fileheader.specs.declared.Opened.{Opened}
+use Rattle.fileheader.specs.declared.Opened.the-variants.{Good, Refused}
+
+-- "root", Version, BEGIN, END, SeekFree, NbytesFree, nfree, NbytesName, Units (1), Compress, SeekInfo, NbytesInfo
+abbrev pub fileLayout : ℕ → List ℕ
+fileLayout w = 4 ∷ 4 ∷ 4 ∷ w ∷ w ∷ 4 ∷ 4 ∷ 4 ∷ 1 ∷ 4 ∷ w ∷ 4 ∷ []
+
+-- the number i of them, from 0 on
+abbrev pub fileNumber : List ℕ → ℕ → ℕ
+fileNumber s i = getD (valuesAt (fileLayout offsetWidth) s 0) i 0
+
+unfoldable pub fileHead : List ℕ → FileHead
+fileHead s = record {
+  seekfree = fileNumber s 4;
+  nbytesfree = fileNumber s 5;
+  nfree = fileNumber s 6;
+  nbytesname = fileNumber s 7;
+  seekinfo = fileNumber s 10;
+  nbytesinfo = fileNumber s 11;
+}
+
+-- 1 short: at least 100 bytes
+abbrev pub longEnough : List ℕ → List Check
+longEnough s = le 100 (length s) ∷ []
+
+-- 2 magic: "root"
+abbrev pub magic : List ℕ → List Check
+magic s = eq (fileNumber s 0) 1919905652 ∷ []
+
+-- 3 wide: Version below 1,000,000 and Units 4
+abbrev pub narrow : List ℕ → List Check
+narrow s = lt (fileNumber s 1) 1000000 ∷ eq (fileNumber s 8) 4 ∷ []
+
+-- 4 bounds: BEGIN 100; END equal to the lent length and at most 1,999,999,999
+abbrev pub bounds : List ℕ → List Check
+bounds s = eq (fileNumber s 2) 100 ∷ eq (fileNumber s 3) (length s) ∷ le (length s) 1999999999 ∷ []
+
+-- the header, or the first of 1 to 4 that does not hold
+unfoldable pub openedAs : List ℕ → Opened
+openedAs s =
+    pick (all (longEnough s))
+    (pick (all (magic s))
+    (pick (all (narrow s)) (pick (all (bounds s)) (Good (fileHead s)) (Refused 4)) (Refused 3))
+    (Refused 2))
+    (Refused 1)

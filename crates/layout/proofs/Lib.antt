@@ -1,4 +1,0 @@
-pub mod Opens
-pub mod Records
-pub mod Spans
-pub mod Headings

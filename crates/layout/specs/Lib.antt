@@ -1,4 +1,0 @@
-pub mod Dir
-pub mod File
-pub mod Keys
-pub mod Name

@@ -1,0 +1,107 @@
+// What a record is: whether its key is plain and its data unpacked, and its class and name. Every public function takes any input
+// and has no precondition.
+ghost use mathlib.Core.Path.{_≡_};
+ghost use Rattle.wire.specs.Check.{all};
+ghost use Rattle.wire.specs.Lent.{before};
+ghost use Rattle.wire.specs.Name.{tFile, tDirectory};
+ghost use Rattle.key.specs.Header.{plain, unpackedData};
+ghost use Rattle.record.specs.Name.{sameBytes, named, plainRecord, isInfo};
+use key::header::FIXED;
+use key::header::Key;
+use wire::text::Text;
+use wire::text::same;
+
+// Whether KeyLen is the sum.
+pub fn is_plain(k: Key) -> bool
+    ensures { λ r. ⌜ r ≡ all (plain k) ⌝ }
+{
+    let class = k.class;
+    let name = k.name;
+    let title = k.title;
+    let a = class.len;
+    let b = name.len;
+    let c = title.len;
+    if 4294967295 < a {
+        return false;
+    }
+    if 4294967295 < b {
+        return false;
+    }
+    if 4294967295 < c {
+        return false;
+    }
+    k.keylen as usize == FIXED + (1 + a) + (1 + b) + (1 + c)
+}
+
+// Whether the data is not packed.
+pub fn is_unpacked(k: Key) -> bool
+    ensures { λ r. ⌜ r ≡ all (unpackedData k) ⌝ }
+{
+    k.objlen as u64 + k.keylen as u64 == k.nbytes as u64
+}
+
+// Whether a key is plain and its data not packed.
+pub fn is_plain_record(k: Key) -> bool
+    ensures { λ r. ⌜ r ≡ all (plainRecord k) ⌝ }
+{
+    if !is_plain(k) {
+        return false;
+    }
+    is_unpacked(k)
+}
+
+// Whether the same n bytes stand at two places of a file.
+pub fn same_at(s: &[u8], a: usize, b: usize, n: usize) -> bool
+    ensures { λ r. ⌜ r ≡ sameBytes (before s) a b n ⌝ }
+{
+    if s.len() < n {
+        return false;
+    }
+    if s.len() - n < a {
+        return false;
+    }
+    if s.len() - n < b {
+        return false;
+    }
+    same(&s[a..a + n], &s[b..b + n])
+}
+
+// Whether a string of a file is this one.
+fn is_name(s: &[u8], t: Text, name: &[u8]) -> bool
+    ensures { λ r. ⌜ r ≡ named (before s) t (before name) ⌝ }
+{
+    let start = t.start;
+    let len = t.len;
+    if s.len() < len {
+        return false;
+    }
+    if s.len() - len < start {
+        return false;
+    }
+    same(&s[start..start + len], name)
+}
+
+pub fn is_file(s: &[u8], t: Text) -> bool
+    ensures { λ r. ⌜ r ≡ named (before s) t tFile ⌝ }
+{
+    is_name(s, t, b"TFile")
+}
+
+pub fn is_directory(s: &[u8], t: Text) -> bool
+    ensures { λ r. ⌜ r ≡ named (before s) t tDirectory ⌝ }
+{
+    is_name(s, t, b"TDirectory")
+}
+
+// Whether a key is plain, of class TList and named StreamerInfo.
+pub fn is_info_key(s: &[u8], k: Key) -> bool
+    ensures { λ r. ⌜ r ≡ all (isInfo (before s) k) ⌝ }
+{
+    if !is_plain(k) {
+        return false;
+    }
+    if !is_name(s, k.class, b"TList") {
+        return false;
+    }
+    is_name(s, k.name, b"StreamerInfo")
+}
