@@ -6,13 +6,13 @@ use lib.ListN.{replicate}
 use lib.IntN.{ℤ}
 use Rattle.wire.specs.Number.{bits16}
 use Rattle.wire.specs.declared.Answer.{Answer}
-use Rattle.wire.specs.declared.date.Date.{Date}
+use Rattle.date.specs.declared.Date.{Date}
 use Rattle.key.specs.declared.header.Key.{Key}
 use Rattle.wire.specs.declared.number.Bits.{Bits}
 use Rattle.wire.specs.declared.number.Bits.the-variants.{Held, Wide}
 use Rattle.key.specs.declared.piece.Piece.{Piece}
 use Rattle.key.specs.declared.piece.Piece.the-variants.{Record, Gap, Refused}
-use Rattle.key.specs.declared.writer.Fields.{Fields}
+use Rattle.writer.specs.declared.Fields.{Fields}
 
 -- an answer: the number returned, and what stands behind the two pointers at exit
 pub record Told (a : Answer) (number place count : ℕ) : Type 0 where

@@ -1,18 +1,18 @@
 // The C interface: thin functions over the proved crates, with the same promises. A slice is passed as a
 // pointer and a length. The number is returned; place and count are written in every case.
 ghost use mathlib.Core.Path.{_≡_};
-ghost use Rattle.wire.specs.Date.{packAnswer, unpacked};
+ghost use Rattle.date.specs.Date.{packAnswer, unpacked};
 ghost use lib.ListN.{length};
 ghost use Rattle.streamer.specs.Info.{infoAnswer, infoTable};
 ghost use Rattle.key.specs.Piece.{pieceAt, pieceAnswer};
-ghost use Rattle.key.specs.Writer.{writeAnswer, writeBuffer};
+ghost use Rattle.writer.specs.Writer.{writeAnswer, writeBuffer};
 ghost use Rattle.audit.specs.Tables.{Audited};
 ghost use Rattle.capi.specs.Told.{Told, dateList, pieceList, recordList, dateOf, fieldsOf, storedCycle};
+use date::Date;
 use key::header::Key;
 use key::piece::Piece;
-use key::writer::Fields;
-use wire::date::Date;
 use wire::number::Bits;
+use writer::Fields;
 
 // Packs a date: 0 and the packed value as count, or 18.
 #[no_mangle]
@@ -28,7 +28,7 @@ pub extern "C" fn rootmap_pack_date(
 ) -> u64
     ensures { λ r. ⌜ Told (packAnswer (dateOf year month day hour minute second)) r (now (place .exit)) (now (count .exit)) ⌝ }
 {
-    let a = wire::date::pack_date(Date {
+    let a = date::pack_date(Date {
         year,
         month,
         day,
@@ -46,7 +46,7 @@ pub extern "C" fn rootmap_pack_date(
 pub extern "C" fn rootmap_unpack_date(packed: u32, fields: &mut [u32; 6])
     ensures { λ _. ⌜ now (fields .exit) ≡ dateList (unpacked packed) ⌝ }
 {
-    let d = wire::date::unpack_date(packed);
+    let d = date::unpack_date(packed);
     *fields = [d.year, d.month, d.day, d.hour, d.minute, d.second];
 }
 
@@ -155,7 +155,7 @@ pub extern "C" fn rootmap_write_key(
         seekkey: seek_key,
         seekpdir: seek_pdir,
     };
-    let w = key::writer::write_key(f, class_name, name, title, buf);
+    let w = writer::write_key(f, class_name, name, title, buf);
     *place = w.place;
     *count = w.count;
     w.number

@@ -5,15 +5,17 @@ use mathlib.Core.List.{List, [], _∷_, _++_}
 use mathlib.Core.Path.{_≡_, refl}
 use lib.ListN.{length, set, replicate}
 use Rattle.wire.specs.Check.{Check, eq, yes, all}
-use Rattle.wire.specs.Date.{packed, packAnswer}
+use Rattle.date.specs.Date.{packed, packAnswer}
 use Rattle.wire.specs.Equal.{eqBytes}
 use Rattle.wire.specs.Number.{beValue, numAt, signedOf}
-use Rattle.wire.specs.Text.{textAt, textIn, contentOf}
-use Rattle.wire.specs.declared.date.Date.{Date}
-use Rattle.key.specs.Header.{keyAt, namesAt, sumOf, headerIn}
+use Rattle.wire.specs.Text.{textSize, textOf, textAt, textIn, contentOf}
+use Rattle.date.specs.declared.Date.{Date}
+use Rattle.key.specs.Header.{keyAt, namesIn, sumOf, headerIn}
 use Rattle.key.specs.Piece.{sizeAt, recordThere, pieceAt, pieceAnswer}
-use Rattle.fileheader.specs.File.{openedAs}
-use Rattle.keylist.specs.Keys.{copyIn}
+use Rattle.key.specs.declared.header.Header.{Header}
+use Rattle.key.specs.declared.header.Header.the-variants.{Good, Bad}
+use Rattle.layout.specs.File.{openedAs}
+use Rattle.layout.specs.Keys.{copyIn}
 use Rattle.rules.specs.Order.{verdict, numberOf}
 use Rattle.rules.specs.Row.{starts}
 use Rattle.rules.specs.Turn.{Turn, going, stop, copyTurn}
@@ -61,19 +63,24 @@ abbrev numberIn : Turn → ℕ
 numberIn (going ps os c) = 0
 numberIn (stop n p) = n
 
+-- the sum of a header that was read
+abbrev sumIn : Header → ℕ
+sumIn (Good k) = sumOf k
+sumIn Bad = 0
+
 abbrev cases : List Check
 cases =
     -- 2024-03-15 12:30:45 packs to 1960757165; month 16 is 18
     eq (packAnswer (theDate 3) .number) 0 ∷ eq (packAnswer (theDate 3) .count) 1960757165 ∷ eq (packAnswer (theDate 16) .number) 18
     -- StreamerInfo's own key has sum 64
-    ∷ eq (sumOf (keyAt twoClasses 0)) 64
+    ∷ eq (sumIn (headerIn twoClasses 0 (length twoClasses))) 64
     -- its first new class tag is at 89, so a reference to it is 0x8000005b: the reference at 187 is taken, another is not
     ∷ eq (numAt 4 twoClasses 89) 4294967295 ∷ eq (numAt 4 twoClasses 187) 2147483739 ∷ eq (infoAnswer twoClasses 0 6 .number) 0
     ∷ eq (infoAnswer twoClasses 0 6 .count) 1 ∷ eq (infoAnswer (set twoClasses 190 92) 0 6 .number) 22
     ∷ eq (infoAnswer (set twoClasses 190 92) 0 6 .place) 187
     ∷ yes (eqBytes (infoTable twoClasses 0 7) (1 ∷ 1 ∷ 307 ∷ 347 ∷ 0 ∷ 0 ∷ 0 ∷ [])) ∷ eq (infoAnswer twoClasses 0 5 .number) 24
     -- one.root's head key has sum 35; "x" of TObjString 40
-    ∷ eq (sumOf (keyAt headKey 0)) 35 ∷ eq (sumOf (keyAt objectKey 0)) 40
+    ∷ eq (sumIn (headerIn headKey 0 (length headKey))) 35 ∷ eq (sumIn (headerIn objectKey 0 (length objectKey))) 40
     -- name length 254 is taken, 255 is 6
     ∷ eq (pieceAnswer (named 1 28 254) 0 .number) 0 ∷ eq (pieceAnswer (named 1 29 255) 0 .number) 6
     -- three bytes left before END is 5; four holding -4 is a gap
@@ -88,5 +95,5 @@ cases =
     ∷ []
 
 pub examples : all cases ≡ true
-unfolding beValue numAt signedOf textAt textIn contentOf keyAt namesAt headerIn sizeAt recordThere pieceAt pieceAnswer packed packAnswer openedAs copyIn verdict copyTurn starts andThen fieldAt numbersAt endOf countAt counted endedAt textFieldAt unnamedAt zeroAt objectAt eqBytes firstIn classIn classOf newTag oldTag tagAt headAt headed flat times ends namedAt withName baseAt withFields counterAt ownAt memberAt elementAt collectionAt sized arrayBody arrayAt classBody classAt wholeAt listAt recordAt infoAt infoAnswer infoTable
+unfolding beValue numAt signedOf textSize textOf textAt textIn contentOf keyAt namesIn headerIn sizeAt recordThere pieceAt pieceAnswer packed packAnswer openedAs copyIn verdict copyTurn starts andThen fieldAt numbersAt endOf countAt counted endedAt textFieldAt unnamedAt zeroAt objectAt eqBytes firstIn classIn classOf newTag oldTag tagAt headAt headed flat times ends namedAt withName baseAt withFields counterAt ownAt memberAt elementAt collectionAt sized arrayBody arrayAt classBody classAt wholeAt listAt recordAt infoAt infoAnswer infoTable
 examples = refl
