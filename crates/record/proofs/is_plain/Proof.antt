@@ -17,30 +17,8 @@ returns-2 c = sym (not-all (plain (c .before .before .before .before .before .ar
 returns-3 : tie.Need-returns-3
 returns-3 c = sym (not-all (plain (c .before .before .before .before .before .before .args .k)) (λ h. omega (arith, h)))
 
-cast-result : tie.Need-cast-result
-cast-result c = search needs
-
-add-result : tie.Need-add-result
-add-result c = search needs
-
-add-result-2 : tie.Need-add-result-2
-add-result-2 c = search needs
-
-add-result-3 : tie.Need-add-result-3
-add-result-3 c = search needs
-
 returns-4 : tie.Need-returns-4
 returns-4 c = let k = c .before .before .before .before .before .before .before .args .k in ap (eqb (k .keylen)) (omega arith) ∙ (one-eq (k .keylen) (sumOf k))
 
 pub is-plain-spec : {M : Type 1} → statement M
-is-plain-spec =
-    tie.close
-    (tie.spec
-    returns
-    returns-2
-    returns-3
-    cast-result
-    add-result
-    add-result-2
-    add-result-3
-    returns-4)
+is-plain-spec = tie.close (tie.spec returns returns-2 returns-3 (search needs) (search needs) (search needs) (search needs) returns-4)
