@@ -43,42 +43,15 @@ refused : (c : tie.After-d) → (All (headFits (third (title c)) (start (title c
     → dir.Bad ≡ headDirIn (now (start (title c) .args .s)) (start (title c) .args .at) (start (title c) .args .end) (start (title c) .args .nbytesname)
 refused c h = after-title (title c) (not-kept _ (sym (c .before .before .read-dir .ensures) ∙ c .d .given .1) h)
 
-read-text-requires : tie.Need-read-text-requires
-read-text-requires c κs = search needs
-
-enum-known-name : tie.Need-enum-known-name
-enum-known-name c = search needs
-
-enum-told : tie.Need-enum-told
-enum-told c = search needs
-
 returns : tie.Need-returns
 unfolding headDirIn
 returns c = on-cut _ _ (sym (c .before .before .read-text .ensures) ∙ c .enum-told .given .1)
-
-read-text-requires-2 : tie.Need-read-text-requires-2
-read-text-requires-2 c κs = search needs
-
-enum-known-title : tie.Need-enum-known-title
-enum-known-title c = search needs
-
-enum-told-2 : tie.Need-enum-told-2
-enum-told-2 c = search needs
 
 returns-2 : tie.Need-returns-2
 unfolding headDirIn
 returns-2 c =
     on-text _ _ (name-read (c .before .before .before .before))
     (on-cut _ _ (sym (c .before .before .read-text2 .ensures) ∙ c .enum-told2 .given .1))
-
-read-dir-requires : tie.Need-read-dir-requires
-read-dir-requires c κs = search needs
-
-enum-known-d : tie.Need-enum-known-d
-enum-known-d c = search needs
-
-enum-told-3 : tie.Need-enum-told-3
-enum-told-3 c = search needs
 
 returns-3 : tie.Need-returns-3
 returns-3 c = after-title (c .before .before .before .before) (none-kept _ (sym (c .before .before .read-dir .ensures) ∙ c .enum-told3 .given .1))
@@ -88,12 +61,6 @@ returns-4 c = refused (c .before .before .before) (λ h. omega (arith, h))
 
 returns-5 : tie.Need-returns-5
 returns-5 c = refused (c .before .before .before .before .before) (λ h. omega (arith, h))
-
-cast-if3 : tie.Need-cast-if3
-cast-if3 c = search needs
-
-add-if3 : tie.Need-add-if3
-add-if3 c = search needs
 
 returns-6 : tie.Need-returns-6
 returns-6 c = refused (c .before .before .before .before .before .before .before) (λ h. omega (arith, h))
@@ -113,23 +80,6 @@ pub head-dir-spec : {M : Type 1} → statement M
 head-dir-spec =
     tie.close
     (tie.spec
-    read-text-requires
-    enum-known-name
-    enum-told
-    returns
-    read-text-requires-2
-    enum-known-title
-    enum-told-2
-    returns-2
-    read-dir-requires
-    enum-known-d
-    enum-told-3
-    returns-3
-    returns-4
-    returns-5
-    cast-if3
-    add-if3
-    returns-6
-    add-if4
-    returns-7
+    (search needs) (search needs) (search needs) returns (search needs) (search needs) (search needs) returns-2 (search needs)
+    (search needs) (search needs) returns-3 returns-4 returns-5 (search needs) (search needs) returns-6 add-if4 returns-7
     returns-8)

@@ -31,44 +31,17 @@ refused : (c : tie.After-k) → (All (headRecord (now (start c .args .file)) (ke
 unfolding headIn
 refused c h = on-record _ _ (there c) (sym (not-picked (headRecord (now (start c .args .file)) (key c)) _ _ h))
 
-read-piece-requires : tie.Need-read-piece-requires
-read-piece-requires c κs = search needs
-
-enum-known-k : tie.Need-enum-known-k
-enum-known-k c = search needs
-
 returns : tie.Need-returns
 unfolding headIn
 returns c = on-other _ _ (c .before .read-piece .ensures .0) (c .match .keys2)
-
-is-plain-record-requires : tie.Need-is-plain-record-requires
-is-plain-record-requires c κs = search needs
 
 returns-2 : tie.Need-returns-2
 returns-2 c =
     let k = c .before .before .before in
     refused k (λ h. fails (plainRecord (key k)) (c .before .is-plain-record .ensures) (c .if1 .taken) (h .1))
 
-is-file-requires : tie.Need-is-file-requires
-is-file-requires c κs = search needs
-
 returns-3 : tie.Need-returns-3
 returns-3 c = refused (c .before .before .before .before .before) (λ h. failed _ _ (c .before .is-file .ensures) (c .if2 .taken) (h .0))
-
-cast-head-dir : tie.Need-cast-head-dir
-cast-head-dir c = search needs
-
-add-head-dir : tie.Need-add-head-dir
-add-head-dir c = search needs
-
-cast-head-dir-2 : tie.Need-cast-head-dir-2
-cast-head-dir-2 c = search needs
-
-add-head-dir-2 : tie.Need-add-head-dir-2
-add-head-dir-2 c = search needs
-
-head-dir-requires : tie.Need-head-dir-requires
-head-dir-requires c κs = search needs
 
 returns-4 : tie.Need-returns-4
 unfolding headIn
@@ -83,16 +56,5 @@ pub read-head-spec : {M : Type 1} → statement M
 read-head-spec =
     tie.close
     (tie.spec
-    read-piece-requires
-    enum-known-k
-    returns
-    is-plain-record-requires
-    returns-2
-    is-file-requires
-    returns-3
-    cast-head-dir
-    add-head-dir
-    cast-head-dir-2
-    add-head-dir-2
-    head-dir-requires
-    returns-4)
+    (search needs) (search needs) returns (search needs) returns-2 (search needs) returns-3 (search needs) (search needs)
+    (search needs) (search needs) (search needs) returns-4)

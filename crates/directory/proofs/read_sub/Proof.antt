@@ -53,18 +53,9 @@ refused : (c : tie.After-d)
     → dir.Bad ≡ subIn (now (start (back (unpacked c)) .args .file)) (start (back (unpacked c)) .args .at) (start (back (unpacked c)) .args .parent)
 refused c h = after-key (unpacked c) (not-kept _ (sym (c .before .before .read-dir .ensures) ∙ c .d .given .1) h)
 
-read-piece-requires : tie.Need-read-piece-requires
-read-piece-requires c κs = search needs
-
-enum-known-k : tie.Need-enum-known-k
-enum-known-k c = search needs
-
 returns : tie.Need-returns
 unfolding subIn
 returns c = on-other _ _ (c .before .read-piece .ensures .0) (c .match .keys2)
-
-is-unpacked-requires : tie.Need-is-unpacked-requires
-is-unpacked-requires c κs = search needs
 
 returns-2 : tie.Need-returns-2
 unfolding subIn
@@ -73,38 +64,17 @@ returns-2 c =
     let u = unpackedData (key k) in
     on-record _ _ (there k) (sym (not-picked u _ _ (fails u (c .before .is-unpacked .ensures) (c .if1 .taken))))
 
-cast-read-dir : tie.Need-cast-read-dir
-cast-read-dir c = search needs
-
 add-read-dir : tie.Need-add-read-dir
 add-read-dir c = let l = lies (back (c .before)) in omega arith
-
-cast-read-dir-2 : tie.Need-cast-read-dir-2
-cast-read-dir-2 c = search needs
 
 add-read-dir-2 : tie.Need-add-read-dir-2
 add-read-dir-2 c = let l = lies (back (c .before .before)) in omega arith
 
-read-dir-requires : tie.Need-read-dir-requires
-read-dir-requires c κs = search needs
-
-enum-known-d : tie.Need-enum-known-d
-enum-known-d c = search needs
-
-enum-told : tie.Need-enum-told
-enum-told c = search needs
-
 returns-3 : tie.Need-returns-3
 returns-3 c = after-key (c .before .before .before .before .before) (none-kept _ (sym (c .before .before .read-dir .ensures) ∙ c .enum-told .given .1))
 
-cast-if2 : tie.Need-cast-if2
-cast-if2 c = search needs
-
 returns-4 : tie.Need-returns-4
 returns-4 c = refused (c .before .before .before) (λ h. omega (arith, h))
-
-cast-if3 : tie.Need-cast-if3
-cast-if3 c = search needs
 
 returns-5 : tie.Need-returns-5
 returns-5 c = refused (c .before .before .before .before .before) (λ h. omega (arith, h))
@@ -121,22 +91,5 @@ pub read-sub-spec : {M : Type 1} → statement M
 read-sub-spec =
     tie.close
     (tie.spec
-    read-piece-requires
-    enum-known-k
-    returns
-    is-unpacked-requires
-    returns-2
-    cast-read-dir
-    add-read-dir
-    cast-read-dir-2
-    add-read-dir-2
-    read-dir-requires
-    enum-known-d
-    enum-told
-    returns-3
-    cast-if2
-    returns-4
-    cast-if3
-    returns-5
-    returns-6
-    returns-7)
+    (search needs) (search needs) returns (search needs) returns-2 (search needs) add-read-dir (search needs) add-read-dir-2
+    (search needs) (search needs) (search needs) returns-3 (search needs) returns-4 (search needs) returns-5 returns-6 returns-7)

@@ -8,59 +8,23 @@ use Rattle.fileheader.proofs.open.Tie as tie
 returns : tie.Need-returns
 returns c = too-short _ (λ h. omega (arith, h))
 
-be32-requires : tie.Need-be32-requires
-be32-requires c κs = search needs
-
 returns-2 : tie.Need-returns-2
 returns-2 c = no-magic _ (omega arith) (λ h. omega (arith, h))
-
-be32-requires-2 : tie.Need-be32-requires-2
-be32-requires-2 c κs = search needs
 
 returns-3 : tie.Need-returns-3
 returns-3 c = too-wide _ (omega arith) (omega arith) (λ h. omega (arith, h))
 
-shared-slice-read-if4 : tie.Need-shared-slice-read-if4
-shared-slice-read-if4 c = search needs
-
 returns-4 : tie.Need-returns-4
 returns-4 c = too-wide _ (omega arith) (omega arith) (λ h. omega (arith, h))
 
-be32-requires-3 : tie.Need-be32-requires-3
-be32-requires-3 c κs = search needs
-
 returns-5 : tie.Need-returns-5
 returns-5 c = bad-bounds _ (omega arith) (omega arith) (omega arith) (λ h. omega (arith, h))
-
-be32-requires-4 : tie.Need-be32-requires-4
-be32-requires-4 c κs = search needs
-
-cast-if6 : tie.Need-cast-if6
-cast-if6 c = search needs
 
 returns-6 : tie.Need-returns-6
 returns-6 c = bad-bounds _ (omega arith) (omega arith) (omega arith) (λ h. omega (arith, h))
 
 returns-7 : tie.Need-returns-7
 returns-7 c = bad-bounds _ (omega arith) (omega arith) (omega arith) (λ h. omega (arith, h))
-
-be32-requires-5 : tie.Need-be32-requires-5
-be32-requires-5 c κs = search needs
-
-be32-requires-6 : tie.Need-be32-requires-6
-be32-requires-6 c κs = search needs
-
-be32-requires-7 : tie.Need-be32-requires-7
-be32-requires-7 c κs = search needs
-
-be32-requires-8 : tie.Need-be32-requires-8
-be32-requires-8 c κs = search needs
-
-be32-requires-9 : tie.Need-be32-requires-9
-be32-requires-9 c κs = search needs
-
-be32-requires-10 : tie.Need-be32-requires-10
-be32-requires-10 c κs = search needs
 
 returns-8 : tie.Need-returns-8
 unfolding fileHead
@@ -77,23 +41,6 @@ pub open-spec : {M : Type 1} → statement M
 open-spec =
     tie.close
     (tie.spec
-    returns
-    be32-requires
-    returns-2
-    be32-requires-2
-    returns-3
-    shared-slice-read-if4
-    returns-4
-    be32-requires-3
-    returns-5
-    be32-requires-4
-    cast-if6
-    returns-6
-    returns-7
-    be32-requires-5
-    be32-requires-6
-    be32-requires-7
-    be32-requires-8
-    be32-requires-9
-    be32-requires-10
+    returns (search needs) returns-2 (search needs) returns-3 (search needs) returns-4 (search needs) returns-5 (search needs)
+    (search needs) returns-6 returns-7 (search needs) (search needs) (search needs) (search needs) (search needs) (search needs)
     returns-8)

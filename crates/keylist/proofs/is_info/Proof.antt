@@ -25,12 +25,6 @@ start c = c .before .before .before .before
 there : (c : tie.After-k) → pieceAt (now (start c .args .file)) (start c .args .at) ≡ Record (key c)
 there c = sym (c .before .before .read-piece .ensures .0) ∙ c .k .given .1
 
-read-piece-requires : tie.Need-read-piece-requires
-read-piece-requires c κs = search needs
-
-enum-known-k : tie.Need-enum-known-k
-enum-known-k c = search needs
-
 returns : tie.Need-returns
 unfolding infoIn
 returns c = on-other _ _ (c .before .read-piece .ensures .0) (c .match .keys2)
@@ -42,9 +36,6 @@ returns-2 c =
     let f = infoFits (now (start t .args .file)) (start t .args .nbytes) (key t) in
     on-record _ _ (there t) (sym (not-all f (λ h. omega (arith, h))))
 
-is-info-key-requires : tie.Need-is-info-key-requires
-is-info-key-requires c κs = search needs
-
 returns-3 : tie.Need-returns-3
 unfolding infoIn
 returns-3 c =
@@ -53,4 +44,5 @@ returns-3 c =
     on-record _ _ (there t) (c .is-info-key .ensures ∙ sym f)
 
 pub is-info-spec : {M : Type 1} → statement M
-is-info-spec = tie.close (tie.spec read-piece-requires enum-known-k returns returns-2 is-info-key-requires returns-3)
+is-info-spec =
+    tie.close (tie.spec (search needs) (search needs) returns returns-2 (search needs) returns-3)

@@ -15,20 +15,8 @@ start c = c .before .before .before .before
 there : (c : tie.After-k) → Good (c .k .given .0 .0) ≡ headerIn (now (start c .args .file)) (start c .args .at) (start c .args .end)
 there c = sym (c .k .given .1) ∙ c .before .before .read-header .ensures
 
-read-header-requires : tie.Need-read-header-requires
-read-header-requires c κs = search needs
-
-enum-known-k : tie.Need-enum-known-k
-enum-known-k c = search needs
-
-enum-told : tie.Need-enum-told
-enum-told c = search needs
-
 returns : tie.Need-returns
 returns c = no-copy _ _ _ (sym (c .enum-told .given .1) ∙ c .before .before .read-header .ensures)
-
-is-plain-requires : tie.Need-is-plain-requires
-is-plain-requires c κs = search needs
 
 returns-2 : tie.Need-returns-2
 returns-2 c =
@@ -41,13 +29,4 @@ returns-3 c =
     a-copy _ _ _ (there k) (passes-all (plain (k .k .given .0 .0)) (c .before .is-plain .ensures) (c .if1 .left))
 
 pub read-copy-spec : {M : Type 1} → statement M
-read-copy-spec =
-    tie.close
-    (tie.spec
-    read-header-requires
-    enum-known-k
-    enum-told
-    returns
-    is-plain-requires
-    returns-2
-    returns-3)
+read-copy-spec = tie.close (tie.spec (search needs) (search needs) (search needs) returns (search needs) returns-2 returns-3)

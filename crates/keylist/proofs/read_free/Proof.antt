@@ -27,12 +27,6 @@ there c = sym (c .before .before .read-piece .ensures .0) ∙ c .k .given .1
 lies : (c : tie.After-k) → (start c .args .at + key c .nbytes < 18446744073709551616) × (key c .keylen ≤ key c .nbytes)
 lies c = let l = record-there _ _ (there c) in (omega arith, l .1)
 
-read-piece-requires : tie.Need-read-piece-requires
-read-piece-requires c κs = search needs
-
-enum-known-k : tie.Need-enum-known-k
-enum-known-k c = search needs
-
 returns : tie.Need-returns
 unfolding freeIn dataIn
 returns c = on-other _ _ (c .before .read-piece .ensures .0) (c .match .keys2)
@@ -41,17 +35,11 @@ returns-2 : tie.Need-returns-2
 unfolding freeIn
 returns-2 c = no-data _ _ _ (there (c .before .before .before)) (λ h. omega (arith, h))
 
-is-plain-record-requires : tie.Need-is-plain-record-requires
-is-plain-record-requires c κs = search needs
-
 returns-3 : tie.Need-returns-3
 unfolding freeIn
 returns-3 c =
     let t = c .before .before .before .before .before in
     no-data _ _ _ (there t) (λ h. fails (plainRecord (key t)) (c .before .is-plain-record .ensures) (c .if2 .taken) (h .1 .1))
-
-is-file-requires : tie.Need-is-file-requires
-is-file-requires c κs = search needs
 
 -- from the last test back to the record
 abbrev tested : tie.After-is-file → tie.After-k
@@ -61,14 +49,8 @@ returns-4 : tie.Need-returns-4
 unfolding freeIn
 returns-4 c = no-data _ _ _ (there (tested (c .before))) (λ h. failed _ _ (c .before .is-file .ensures) (c .if3 .taken) (h .0))
 
-cast-t8 : tie.Need-cast-t8
-cast-t8 c = search needs
-
 add-t9 : tie.Need-add-t9
 add-t9 c = let l = lies (tested (c .before .before)) in omega arith
-
-cast-t10 : tie.Need-cast-t10
-cast-t10 c = search needs
 
 add-t11 : tie.Need-add-t11
 add-t11 c = let l = lies (tested (c .before .before .before)) in omega arith
@@ -84,16 +66,5 @@ pub read-free-spec : {M : Type 1} → statement M
 read-free-spec =
     tie.close
     (tie.spec
-    read-piece-requires
-    enum-known-k
-    returns
-    returns-2
-    is-plain-record-requires
-    returns-3
-    is-file-requires
-    returns-4
-    cast-t8
-    add-t9
-    cast-t10
-    add-t11
-    returns-5)
+    (search needs) (search needs) returns returns-2 (search needs) returns-3 (search needs) returns-4 (search needs) add-t9
+    (search needs) add-t11 returns-5)

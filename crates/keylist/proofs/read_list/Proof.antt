@@ -27,12 +27,6 @@ there c = sym (c .before .before .read-piece .ensures .0) ∙ c .k .given .1
 lies : (c : tie.After-k) → (start c .args .at + key c .nbytes < 18446744073709551616) × (key c .keylen ≤ key c .nbytes)
 lies c = let l = record-there _ _ (there c) in (omega arith, l .1)
 
-read-piece-requires : tie.Need-read-piece-requires
-read-piece-requires c κs = search needs
-
-enum-known-k : tie.Need-enum-known-k
-enum-known-k c = search needs
-
 returns : tie.Need-returns
 unfolding listIn dataIn
 returns c = on-other _ _ (c .before .read-piece .ensures .0) (c .match .keys2)
@@ -45,17 +39,11 @@ returns-3 : tie.Need-returns-3
 unfolding listIn
 returns-3 c = no-data _ _ _ (there (c .before .before .before .before .before)) (λ h. omega (arith, h))
 
-is-plain-record-requires : tie.Need-is-plain-record-requires
-is-plain-record-requires c κs = search needs
-
 returns-4 : tie.Need-returns-4
 unfolding listIn
 returns-4 c =
     let t = c .before .before .before .before .before .before .before in
     no-data _ _ _ (there t) (λ h. fails (plainRecord (key t)) (c .before .is-plain-record .ensures) (c .if3 .taken) (h .1 .1 .1))
-
-holds-keys-requires : tie.Need-holds-keys-requires
-holds-keys-requires c κs = search needs
 
 -- from the last test back to the record
 abbrev tested : tie.After-holds-keys → tie.After-k
@@ -65,14 +53,8 @@ returns-5 : tie.Need-returns-5
 unfolding listIn
 returns-5 c = no-data _ _ _ (there (tested (c .before))) (λ h. failed _ _ (c .before .holds-keys .ensures) (c .if4 .taken) (h .0))
 
-cast-t10 : tie.Need-cast-t10
-cast-t10 c = search needs
-
 add-t11 : tie.Need-add-t11
 add-t11 c = let l = lies (tested (c .before .before)) in omega arith
-
-cast-t12 : tie.Need-cast-t12
-cast-t12 c = search needs
 
 add-t13 : tie.Need-add-t13
 add-t13 c = let l = lies (tested (c .before .before .before)) in omega arith
@@ -88,17 +70,5 @@ pub read-list-spec : {M : Type 1} → statement M
 read-list-spec =
     tie.close
     (tie.spec
-    read-piece-requires
-    enum-known-k
-    returns
-    returns-2
-    returns-3
-    is-plain-record-requires
-    returns-4
-    holds-keys-requires
-    returns-5
-    cast-t10
-    add-t11
-    cast-t12
-    add-t13
-    returns-6)
+    (search needs) (search needs) returns returns-2 returns-3 (search needs) returns-4 (search needs) returns-5 (search needs)
+    add-t11 (search needs) add-t13 returns-6)

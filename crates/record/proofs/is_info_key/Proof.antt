@@ -11,31 +11,16 @@ use Rattle.record.proofs.Tests.{and-true, all-then, failed, fails, pass
 use Rattle.record.proofs.is_info_key.Statement.{statement}
 use Rattle.record.proofs.is_info_key.Tie as tie
 
-is-plain-requires : tie.Need-is-plain-requires
-is-plain-requires c κs = search needs
-
 returns : tie.Need-returns
 returns c =
     let a = c .before .before .before .args in
     sym (not-all (isInfo (now (a .s)) (a .k)) (λ h. fails (plain (a .k)) (c .before .is-plain .ensures) (c .if1 .taken) (h .0, tt)))
-
-slice-aggregate-is-name : tie.Need-slice-aggregate-is-name
-slice-aggregate-is-name c = search needs
-
-is-name-requires : tie.Need-is-name-requires
-is-name-requires c κs = search needs
 
 returns-2 : tie.Need-returns-2
 returns-2 c =
     let a = c .before .before .before .before .before .before .args in
     let e : c .before .is-name .result ≡ named (now (a .s)) (a .k .class) tList = search needs in
     sym (not-all (isInfo (now (a .s)) (a .k)) (λ h. failed _ _ e (c .if2 .taken) (h .1 .0)))
-
-slice-aggregate-is-name-2 : tie.Need-slice-aggregate-is-name-2
-slice-aggregate-is-name-2 c = search needs
-
-is-name-requires-2 : tie.Need-is-name-requires-2
-is-name-requires-2 c κs = search needs
 
 returns-3 : tie.Need-returns-3
 returns-3 c =
@@ -48,14 +33,4 @@ returns-3 c =
     n ∙ and-true _ ∙ sym (f (p .0, (passed _ _ e (c .before .before .if2 .left), tt)))
 
 pub is-info-key-spec : {M : Type 1} → statement M
-is-info-key-spec =
-    tie.close
-    (tie.spec
-    is-plain-requires
-    returns
-    slice-aggregate-is-name
-    is-name-requires
-    returns-2
-    slice-aggregate-is-name-2
-    is-name-requires-2
-    returns-3)
+is-info-key-spec = tie.close (tie.spec (search needs) returns (search needs) (search needs) returns-2 (search needs) (search needs) returns-3)

@@ -21,27 +21,6 @@ returns-3 : tie.Need-returns-3
 unfolding textSize
 returns-3 c = sym (not-all (plain (c .before .before .before .before .before .before .args .k)) (λ h. omega (arith, h)))
 
-cast-result : tie.Need-cast-result
-cast-result c = search needs
-
-add-result : tie.Need-add-result
-add-result c = search needs
-
-add-result-2 : tie.Need-add-result-2
-add-result-2 c = search needs
-
-add-result-3 : tie.Need-add-result-3
-add-result-3 c = search needs
-
-add-result-4 : tie.Need-add-result-4
-add-result-4 c = search needs
-
-add-result-5 : tie.Need-add-result-5
-add-result-5 c = search needs
-
-add-result-6 : tie.Need-add-result-6
-add-result-6 c = search needs
-
 returns-4 : tie.Need-returns-4
 unfolding textSize
 returns-4 c =
@@ -55,11 +34,11 @@ is-plain-spec =
     returns
     returns-2
     returns-3
-    cast-result
-    add-result
-    add-result-2
-    add-result-3
-    add-result-4
-    add-result-5
-    add-result-6
+    (search needs)
+    (search needs)
+    (search needs)
+    (search needs)
+    (search needs)
+    (search needs)
+    (search needs)
     returns-4)

@@ -7,16 +7,10 @@ use Rattle.record.proofs.Tests.{fails, passes-all, all-then}
 use Rattle.record.proofs.is_plain_record.Statement.{statement}
 use Rattle.record.proofs.is_plain_record.Tie as tie
 
-is-plain-requires : tie.Need-is-plain-requires
-is-plain-requires c κs = search needs
-
 returns : tie.Need-returns
 returns c =
     let k = c .before .before .args .k in
     sym (not-all (plainRecord k) (λ h. fails (plain k) (c .before .is-plain .ensures) (c .if1 .taken) (h .0, tt)))
-
-is-unpacked-requires : tie.Need-is-unpacked-requires
-is-unpacked-requires c κs = search needs
 
 returns-2 : tie.Need-returns-2
 returns-2 c =
@@ -25,4 +19,4 @@ returns-2 c =
     c .is-unpacked .ensures ∙ sym (all-then (plain k) (unpackedData k) p)
 
 pub is-plain-record-spec : {M : Type 1} → statement M
-is-plain-record-spec = tie.close (tie.spec is-plain-requires returns is-unpacked-requires returns-2)
+is-plain-record-spec = tie.close (tie.spec (search needs) returns (search needs) returns-2)
