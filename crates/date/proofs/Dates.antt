@@ -5,7 +5,7 @@ use native.Mathlib.Nat.{div-div-eq-div-mul, div-add-mod'}
 use native.Mathlib.Omega.{arith}
 use Rattle.wire.specs.Answer.{done, refusal}
 use Rattle.wire.specs.Check.{All}
-use Rattle.date.specs.Date.{packed, dateFits, packAnswer, unpacked}
+use Rattle.date.specs.Date.{packed, dateFits, packAnswer, unpacked, Packs, Unpacks}
 use Rattle.wire.specs.declared.Answer.{Answer}
 use Rattle.date.specs.declared.Date.{Date}
 use Rattle.wire.proofs.Checks.{picked, not-picked}
@@ -29,14 +29,6 @@ same h = λ i. record {
   second = h .second i;
 }
 
-pub out-of-range : (d : Date) {a : Answer} → a ≡ refusal 18 0 → (All (dateFits d) → ⊥) → a ≡ packAnswer d
-unfolding packAnswer
-out-of-range d e h = e ∙ sym (not-picked (dateFits d) _ _ h)
-
-pub taken : (d : Date) {a : Answer} → a ≡ done (packed d) → All (dateFits d) → a ≡ packAnswer d
-unfolding packAnswer
-taken d e h = e ∙ sym (picked (dateFits d) _ _ h)
-
 -- unpacking what was packed gives the six fields
 pub unpack-pack : (d : Date) → All (dateFits d) → unpacked (packed d) ≡ d
 unfolding packed unpacked
@@ -48,6 +40,17 @@ unpack-pack d h = same (record {
   minute = omega arith;
   second = omega arith;
 })
+
+pub out-of-range : (d : Date) {a : Answer} → a ≡ refusal 18 0 → (All (dateFits d) → ⊥) → Packs d a
+unfolding packAnswer
+out-of-range d e h = record {
+  answer = e ∙ sym (not-picked (dateFits d) _ _ h);
+  back = λ z. let y = rw e at z in absurd (omega arith);
+}
+
+pub taken : (d : Date) {a : Answer} → a ≡ done (packed d) → All (dateFits d) → Packs d a
+unfolding packAnswer
+taken d e h = record { answer = e ∙ sym (picked (dateFits d) _ _ h); back = λ z. rw e (unpack-pack d h) }
 
 -- the fields of any 32 bits are in their ranges
 pub unpacked-fits : (v : ℕ) → v < 4294967296 → All (dateFits (unpacked v))
@@ -64,8 +67,8 @@ digits : (v a b c d e m n h k l : ℕ) → a * 64 + m ≡ v → b * 64 + n ≡ a
 digits v a b c d e m n h k l p q r t u = omega arith
 
 -- packing what was unpacked gives the 32 bits
-pub pack-unpack : (v : ℕ) → v < 4294967296 → packAnswer (unpacked v) ≡ done v
+pub pack-unpack : (v : ℕ) {d : Date} → v < 4294967296 → d ≡ unpacked v → Unpacks v d
 unfolding unpacked packed
-pack-unpack v h =
-    let e = digits v _ _ _ _ _ _ _ _ _ _ (div-add-mod' v 64) (digit v 64 64) (digit v 4096 32) (digit v 131072 32) (digit v 4194304 16) in
-    sym (taken (unpacked v) (ap done e) (unpacked-fits v h))
+pack-unpack v h e =
+    let s = digits v _ _ _ _ _ _ _ _ _ _ (div-add-mod' v 64) (digit v 64 64) (digit v 4096 32) (digit v 131072 32) (digit v 4194304 16) in
+    record { fields = e; back = rw e (sym (taken (unpacked v) (ap done s) (unpacked-fits v h) .answer)) }

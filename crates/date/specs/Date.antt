@@ -1,6 +1,7 @@
 -- Packed dates: document 01, "Key headers", Datime.
 use Prim.Native.Nat.{ℕ, _+_, _-_, _*_, _/_, _%_}
 use mathlib.Core.List.{List, [], _∷_}
+use mathlib.Core.Path.{_≡_}
 use Rattle.wire.specs.Answer.{done, refusal}
 use Rattle.wire.specs.Check.{Check, le, all, pick}
 use Rattle.wire.specs.declared.Answer.{Answer}
@@ -30,3 +31,13 @@ unpacked v = record {
   minute = v / 64 % 64;
   second = v % 64;
 }
+
+-- what packing promises: the answer, and that unpacking what was packed gives the six fields
+pub record Packs (d : Date) (a : Answer) : Type 0 where
+  pub answer : a ≡ packAnswer d
+  pub back : a .number ≡ 0 → unpacked (a .count) ≡ d
+
+-- what unpacking promises: the six fields, and that packing them gives the 32 bits
+pub record Unpacks (v : ℕ) (d : Date) : Type 0 where
+  pub fields : d ≡ unpacked v
+  pub back : packAnswer d ≡ done v

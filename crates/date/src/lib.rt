@@ -1,6 +1,5 @@
 // Packed dates (document 000, Datime). Every public function takes any input and has no precondition.
-ghost use mathlib.Core.Path.{_≡_};
-ghost use Rattle.date.specs.Date.{packAnswer, unpacked};
+ghost use Rattle.date.specs.Date.{Packs, Unpacks};
 use wire::Answer;
 use wire::finished;
 use wire::refused;
@@ -16,7 +15,7 @@ pub struct Date {
 
 // The 32 bits of a date; 18 for a field out of its range.
 pub fn pack_date(d: Date) -> Answer
-    ensures { λ r. ⌜ r ≡ packAnswer d ⌝ }
+    ensures { λ r. ⌜ Packs d r ⌝ }
 {
     let year = d.year;
     let month = d.month;
@@ -56,7 +55,7 @@ pub fn pack_date(d: Date) -> Answer
 
 // The six fields of any 32 bits.
 pub fn unpack_date(v: u32) -> Date
-    ensures { λ r. ⌜ r ≡ unpacked v ⌝ }
+    ensures { λ r. ⌜ Unpacks v r ⌝ }
 {
     Date {
         year: 1995 + v / 67108864,
