@@ -56,27 +56,31 @@ module _ (s : List ℕ) (p : ℕ) where
   unfolding pieceAt
   gap-there l h e = answered (rw (yes-all (sized s p) h, is-gap l) (ap Gap e))
 
-  -- what a header at p answers
-  header-read : numAt 4 s p < 2147483648 → All (sized s p) → (x : Header) → x ≡ headerIn s p (p + sizeAt s p) → recordOf p x ≡ pieceAt s p
-  unfolding pieceAt
-  header-read l h x e = rw (yes-all (sized s p) h, is-record l) (ap (recordOf p) e)
+  -- the number at p is n, and gives a record of n bytes that lies in the file
+  pub record Numbered (n : ℕ) : Type 0 where
+    pub is : n ≡ numAt 4 s p
+    pub low : n < 2147483648
+    pub fits : All (sized s p)
 
-  -- a record of n bytes, by its header
-  module _ (n : ℕ) (is : n ≡ numAt 4 s p) (l : n < 2147483648) (h : All (sized s p)) where
+  -- what its header answers
+  module _ {n : ℕ} (h : Numbered n) where
     low : numAt 4 s p < 2147483648
     low = omega arith
 
-    size : p + n ≡ p + sizeAt s p
-    size = omega (arith, size-plus low)
+    answers : (x : Header) → x ≡ headerIn s p (p + n) → recordOf p x ≡ pieceAt s p
+    unfolding pieceAt
+    answers x e =
+        let m : p + n ≡ p + sizeAt s p = omega (arith, size-plus low) in
+        rw (yes-all (sized s p) (h .fits), is-record low) (ap (recordOf p) (rw m at e))
 
     pub bad-header : Bad ≡ headerIn s p (p + n) → Answered (Refused 6 p)
-    bad-header e = answered (header-read low h Bad (rw size at e))
+    bad-header e = answered (answers Bad e)
 
     pub other-seek : {k : Key} → Good k ≡ headerIn s p (p + n) → (k .seekkey ≡ p → ⊥) → Answered (Refused 6 p)
-    other-seek {k} e d = answered (rw (ne-eqb (k .seekkey) p d) at (header-read low h (Good k) (rw size at e)))
+    other-seek {k} e d = answered (rw (ne-eqb (k .seekkey) p d) at (answers (Good k) e))
 
     pub record-there : {k : Key} → Good k ≡ headerIn s p (p + n) → k .seekkey ≡ p → Answered (Record k)
-    record-there {k} e d = answered (rw (eq-eqb (k .seekkey) p d) at (header-read low h (Good k) (rw size at e)))
+    record-there {k} e d = answered (rw (eq-eqb (k .seekkey) p d) at (answers (Good k) e))
 
   -- what a record at p says of the file
   pub record Recorded (k : Key) : Type 0 where

@@ -90,5 +90,10 @@ pub differ-four : (a b : List ℕ) (i x y : ℕ) → Word a i x → Word b i y �
 differ-four a b i x y v w n = go (eqBytes a b) refl
   where
     go : (c : Bool) → eqBytes a b ≡ c → false ≡ eqBytes a b
-    go true e = absurd (n (v .value ∙ ap (λ (t : List ℕ). getD t i 0 * 16777216 + getD t (i + 1) 0 * 65536 + getD t (i + 2) 0 * 256 + getD t (i + 3) 0) (eq-same a b e) ∙ sym (w .value)))
+    go true e =
+        absurd
+        (n
+        (v .value
+        ∙ ap (λ (t : List ℕ). getD t i 0 * 16777216 + getD t (i + 1) 0 * 65536 + getD t (i + 2) 0 * 256 + getD t (i + 3) 0) (eq-same a b e)
+        ∙ sym (w .value)))
     go false e = sym e

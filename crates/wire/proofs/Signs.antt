@@ -87,7 +87,9 @@ module _ (z : ℤ) (f : SFits w32 z) where
   back : (u : Under z) → toZ w32 (ofZ w32 (toZ w32 (ofZ w32 z) +ℤ pos 65536)) ≡ pos (65536 - suc (u .n))
   back u = toZ-ofZ (sum-fits u) ∙ sum u
 
-  pub sum-cast : Under z → T (nonNeg (toZ w32 (ofZ w32 (toZ w32 (ofZ w32 z) +ℤ pos 65536)))) × Fits w32 (natAbs (toZ w32 (ofZ w32 (toZ w32 (ofZ w32 z) +ℤ pos 65536))))
+  pub sum-cast : Under z
+      → T (nonNeg (toZ w32 (ofZ w32 (toZ w32 (ofZ w32 z) +ℤ pos 65536))))
+      × Fits w32 (natAbs (toZ w32 (ofZ w32 (toZ w32 (ofZ w32 z) +ℤ pos 65536))))
   sum-cast u = rw (back u) (tt, record { fits = omega arith })
 
   pub sum-is : Under z → Held (natAbs (toZ w32 (ofZ w32 (toZ w32 (ofZ w32 z) +ℤ pos 65536)))) ≡ bits16 z

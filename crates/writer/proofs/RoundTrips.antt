@@ -185,7 +185,7 @@ module _ (f : Fields) (class name title buf : List ℕ) where
     read-there : pieceAt out (f .seekkey) ≡ Record (keyOf f class name title)
     unfolding keyOf textOf
     read-there =
-        sym (record-there out (f .seekkey) (f .nbytes) (sym first) (omega (arith, h .key)) sized-there
+        sym (record-there out (f .seekkey) (record { is = sym first; low = omega (arith, h .key); fits = sized-there })
         (good out (f .seekkey) end strings-there key-there (h .key .1 .1 .1)) refl .0)
 
   -- what was written reads back: the key with the same fields, and its three strings

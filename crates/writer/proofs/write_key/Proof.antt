@@ -16,18 +16,27 @@ use borrow.Author.Needs.{needs}
 use Rattle.writer.proofs.write_key.Statement.{statement}
 use Rattle.writer.proofs.write_key.Tie as tie
 
+-- the call, seen from the test of the strings, from the cycle's bits and from the test of the fields
+abbrev short-start : tie.Else3 → tie.Start
+short-start c = c .before .before .before .before .before .before .before
+
+abbrev cycle-start : tie.After-cycle → tie.Start
+cycle-start c = short-start (c .before .before .before .before)
+
+abbrev key-start : tie.Else6 → tie.Start
+key-start c = cycle-start (c .before .before .before .before .before .before)
+
 -- the cycle's bits
 cycle-bits : (c : tie.After-cycle)
-    → let f = c .before .before .before .before .before .before .before .before .before .before .before .args .f in (c .cycle .given .0 .0 ≡ bitsOf 2 (f .cycle)) × (mag (f .cycle) < 32768)
+    → let f = cycle-start c .args .f in (c .cycle .given .0 .0 ≡ bitsOf 2 (f .cycle)) × (mag (f .cycle) < 32768)
 cycle-bits c =
-    let f = c .before .before .before .before .before .before .before .before .before .before .before .args .f in
+    let f = cycle-start c .args .f in
     let i : toZ w32 (ofZ w32 (f .cycle)) ≡ f .cycle = search needs in
     from-bits i (sym (c .cycle .given .1) ∙ c .before .before .bits-of .ensures)
 
 -- every field fits
 key-there : (c : tie.Else6)
-    → let a = c .before .before .before .before .before .before .before .before .before .before .before .before .before .before .before .before .before .args in
-    All (keyFits (a .f) (now (a .class)) (now (a .name)) (now (a .title)))
+    → let a = key-start c .args in All (keyFits (a .f) (now (a .class)) (now (a .name)) (now (a .title)))
 unfolding textSize
 key-there c =
     let m = cycle-bits (c .before .before .before .before .before .before) .1 in
@@ -35,8 +44,7 @@ key-there c =
 
 -- so do the names, and the buffer holds the record
 accepted : (c : tie.Else7)
-    → let a = c .before .before .before .before .before .before .before .before .before .before .before .before .before .before .before .before .before .before .args in
-    Accepted (a .f) (now (a .class)) (now (a .name)) (now (a .title)) (now (a .buf))
+    → let a = key-start (c .before) .args in Accepted (a .f) (now (a .class)) (now (a .name)) (now (a .title)) (now (a .buf))
 accepted c = record { short = omega arith; key = key-there (c .before); room = omega arith }
 
 refused-requires : tie.Need-refused-requires
@@ -89,10 +97,10 @@ refused-requires-4 c κs = search needs
 
 returns-4 : tie.Need-returns-4
 returns-4 c =
-    let f = c .before .before .before .before .before .before .before .before .before .before .before .before .args .f in
+    let f = short-start (c .before .before .before .before .before) .args .f in
     let i : toZ w32 (ofZ w32 (f .cycle)) ≡ f .cycle = search needs in
-    bad-field _ _ _ _ _ (omega arith) (λ h. from-wide i (sym (c .before .enum-told .given .1) ∙ c .before .before .before .bits-of .ensures) (h .0))
-    (c .refused4 .ensures)
+    bad-field _ _ _ _ _ (omega arith)
+    (λ h. from-wide i (sym (c .before .enum-told .given .1) ∙ c .before .before .before .bits-of .ensures) (h .0)) (c .refused4 .ensures)
 
 refused-requires-5 : tie.Need-refused-requires-5
 refused-requires-5 c κs = search needs

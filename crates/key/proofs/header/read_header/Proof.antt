@@ -45,10 +45,14 @@ is-formed-requires : tie.Need-is-formed-requires
 is-formed-requires c κs = search needs
 
 returns-4 : tie.Need-returns-4
-returns-4 c = let d = c .before .before in is-good _ _ _ (held (d .before .before .before)) (d .read-key .ensures) (c .before .is-formed .ensures) (c .if3 .taken)
+returns-4 c =
+    let d = c .before .before in
+    is-good _ _ _ (held (d .before .before .before)) (d .read-key .ensures) (c .before .is-formed .ensures) (c .if3 .taken)
 
 returns-5 : tie.Need-returns-5
-returns-5 c = let d = c .before .before in is-bad _ _ _ (held (d .before .before .before)) (d .read-key .ensures) (c .before .is-formed .ensures) (c .if3 .left)
+returns-5 c =
+    let d = c .before .before in
+    is-bad _ _ _ (held (d .before .before .before)) (d .read-key .ensures) (c .before .is-formed .ensures) (c .if3 .left)
 
 pub read-header-spec : {M : Type 1} → statement M
 read-header-spec =

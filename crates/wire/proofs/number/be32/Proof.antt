@@ -20,7 +20,9 @@ word-requires : tie.Need-word-requires
 word-requires c κs = search needs
 
 returns-3 : tie.Need-returns-3
-returns-3 c = let a = c .before .before .before .before .args in c .word .ensures .value ∙ sym (num-in 4 (now (a .s)) (a .at) (omega arith) ∙ value4 (now (a .s)) (a .at))
+returns-3 c =
+    let a = c .before .before .before .before .args in
+    c .word .ensures .value ∙ sym (num-in 4 (now (a .s)) (a .at) (omega arith) ∙ value4 (now (a .s)) (a .at))
 
 pub be32-spec : {M : Type 1} → statement M
 be32-spec = tie.close (tie.spec returns sub-if2 returns-2 word-requires returns-3)

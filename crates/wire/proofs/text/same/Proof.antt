@@ -56,7 +56,9 @@ loop-less-2 : tie.Need-loop-less-2 Inv-loop μ-loop
 loop-less-2 c = search needs
 
 loop-again-2 : tie.Need-loop-again-2 Inv-loop μ-loop
-loop-again-2 c = turn-four _ _ (c .before .before .before .before .before .loop .inv) (omega arith) (c .before .before .word .ensures) (c .before .word2 .ensures) (omega arith)
+loop-again-2 c =
+    turn-four _ _ (c .before .before .before .before .before .loop .inv) (omega arith) (c .before .before .word .ensures)
+    (c .before .word2 .ensures) (omega arith)
 
 returns-4 : tie.Need-returns-4 Inv-loop μ-loop
 returns-4 c = ended (c .before .loop .inv) (omega arith)

@@ -41,7 +41,10 @@ put-number-requires : tie.Need-put-number-requires Inv-loop μ-loop
 put-number-requires c κs = let h = c .before .before .before .before .loop .inv in omega (arith, lay-room h (omega arith))
 
 add-at : tie.Need-add-at Inv-loop μ-loop
-add-at c = let d = c .before .before .before .before .before .before .before in let h = d .loop .inv in omega (arith, lay-room h (omega arith), lay-length h, d .before .before .before)
+add-at c =
+    let d = c .before .before .before .before .before .before .before in
+    let h = d .loop .inv in
+    omega (arith, lay-room h (omega arith), lay-length h, d .before .before .before)
 
 add-i : tie.Need-add-i Inv-loop μ-loop
 add-i c = search needs
@@ -50,7 +53,8 @@ loop-less : tie.Need-loop-less Inv-loop μ-loop
 loop-less c = search needs
 
 loop-again : tie.Need-loop-again Inv-loop μ-loop
-loop-again c = lay-turn (c .before .before .before .before .before .before .before .loop .inv) (omega arith) (c .before .before .put-number .ensures)
+loop-again c =
+    lay-turn (c .before .before .before .before .before .before .before .loop .inv) (omega arith) (c .before .before .put-number .ensures)
 
 same-length : tie.Need-same-length Inv-loop μ-loop
 same-length c = lay-length (c .before .loop .inv)
