@@ -5,7 +5,7 @@ use mathlib.Core.Path.{_≡_, sym, ap, _∙_}
 use lib.IntN.{ℤ}
 use Rattle.wire.specs.Number.{bits16}
 use Rattle.key.specs.Piece.{pieceAt, answerOf, pieceAnswer}
-use Rattle.writer.specs.Writer.{writeAnswer, writeBuffer}
+use Rattle.key.specs.Writer.{writeAnswer, writeBuffer}
 use Rattle.wire.specs.declared.Answer.{Answer}
 use Rattle.wire.specs.declared.number.Bits.{Bits}
 use Rattle.key.specs.declared.piece.Piece.{Piece}

@@ -12,7 +12,7 @@ use Rattle.wire.specs.declared.number.Bits.{Bits}
 use Rattle.wire.specs.declared.number.Bits.the-variants.{Held, Wide}
 use Rattle.key.specs.declared.piece.Piece.{Piece}
 use Rattle.key.specs.declared.piece.Piece.the-variants.{Record, Gap, Refused}
-use Rattle.writer.specs.declared.Fields.{Fields}
+use Rattle.key.specs.declared.header.Fields.{Fields}
 
 -- an answer: the number returned, and what stands behind the two pointers at exit
 pub record Told (a : Answer) (number place count : ℕ) : Type 0 where

@@ -5,14 +5,14 @@ ghost use Rattle.date.specs.Date.{packAnswer, unpacked};
 ghost use lib.ListN.{length};
 ghost use Rattle.streamer.specs.Info.{infoAnswer, infoTable};
 ghost use Rattle.key.specs.Piece.{pieceAt, pieceAnswer};
-ghost use Rattle.writer.specs.Writer.{writeAnswer, writeBuffer};
+ghost use Rattle.key.specs.Writer.{writeAnswer, writeBuffer};
 ghost use Rattle.audit.specs.Tables.{Audited};
 ghost use Rattle.capi.specs.Told.{Told, dateList, pieceList, recordList, dateOf, fieldsOf, storedCycle};
 use date::Date;
+use key::header::Fields;
 use key::header::Key;
 use key::piece::Piece;
 use wire::number::Bits;
-use writer::Fields;
 
 // Packs a date: 0 and the packed value as count, or 18.
 #[no_mangle]

@@ -2,3 +2,6 @@ pub mod Headers
 pub mod Names
 pub mod Others
 pub mod Pieces
+pub mod RoundTrips
+pub mod WriteAgain
+pub mod Writes

@@ -9,7 +9,8 @@ use denote.Enum.Declared.{tagOf}
 use types.Run.{OneOf}
 use Rattle.key.proofs.piece.Piece.{the-type}
 use Rattle.key.proofs.Pieces.{from-record}
-use Rattle.key.specs.Piece.{pieceAt, answerOf, pieceAnswer, onRecord}
+use Rattle.key.specs.Piece.{pieceAt, onRecord}
+use Rattle.key.specs.Writer.{Reads}
 use Rattle.key.specs.declared.header.Key.{Key}
 use Rattle.key.specs.declared.piece.Piece.{Piece}
 use Rattle.key.specs.declared.piece.Piece.the-variants.{Record, Gap, Refused}
@@ -21,15 +22,15 @@ no-record P (Record k) h f g = absurd (⊎-elim (λ (e : 0 ≡ 1). omega arith) 
 no-record P (Gap n) h f g = f n
 no-record P (Refused c q) h f g = g c q
 
-module _ {A : Type 0} (f : Piece → A) (s : List ℕ) (p : ℕ) {r : Piece} (e : (r ≡ pieceAt s p) × (answerOf r ≡ pieceAnswer s p)) where
+module _ {A : Type 0} (f : Piece → A) (s : List ℕ) (p : ℕ) {r : Piece} (e : Reads s p r) where
   -- what is answered where no record stands at p
   pub if-other : (b : A) → OneOf (1 ∷ 2 ∷ []) (tagOf the-type r) → ((n : ℕ) → b ≡ f (Gap n)) → ((c q : ℕ) → b ≡ f (Refused c q))
       → b ≡ f (pieceAt s p)
-  if-other b h g i = no-record (λ (r : Piece). b ≡ f r) r h g i ∙ ap f (e .0)
+  if-other b h g i = no-record (λ (r : Piece). b ≡ f r) r h g i ∙ ap f (e .piece)
 
   -- what is answered for the record k at p
   pub if-record : {k : Key} {b : A} → r ≡ Record k → b ≡ f (Record k) → b ≡ f (pieceAt s p)
-  if-record i h = h ∙ ap f (sym i ∙ e .0)
+  if-record i h = h ∙ ap f (sym i ∙ e .piece)
 
 -- a record lies in the file, and its key in the record
 pub record-there : (s : List ℕ) (p : ℕ) {k : Key} → pieceAt s p ≡ Record k → (p + k .nbytes ≤ length s) × (k .keylen ≤ k .nbytes)
@@ -37,9 +38,9 @@ record-there s p e =
     let h = from-record s p e in
     (omega (arith, h .size, h .sized-there), h .header .fits .1 .1 .1 .1 .1 .0)
 
-pub record-lies : (s : List ℕ) (p : ℕ) {r : Piece} {k : Key} → (r ≡ pieceAt s p) × (answerOf r ≡ pieceAnswer s p) → r ≡ Record k
+pub record-lies : (s : List ℕ) (p : ℕ) {r : Piece} {k : Key} → Reads s p r → r ≡ Record k
     → (p + k .nbytes ≤ length s) × (k .keylen ≤ k .nbytes)
-record-lies s p e i = record-there s p (sym (e .0) ∙ i)
+record-lies s p e i = record-there s p (sym (e .piece) ∙ i)
 
 -- what is said where no record was read, and of a record
 module _ {A : Type 0} (bad : A) (f : Key → A) {x : Piece} where

@@ -29,6 +29,17 @@ pub struct Key {
     pub title: Text,
 }
 
+// The fields of a key header but KeyLen, which the writer works out.
+pub struct Fields {
+    pub nbytes: u32,
+    pub version: u32,
+    pub objlen: u32,
+    pub datime: u32,
+    pub cycle: i32,
+    pub seekkey: u64,
+    pub seekpdir: u64,
+}
+
 pub enum Header {
     Good(Key),
     Bad,

@@ -1,7 +1,6 @@
 // Pieces: a record, a gap or a refusal at a place.
-ghost use mathlib.Core.Path.{_≡_};
 ghost use Rattle.wire.specs.Lent.{before};
-ghost use Rattle.key.specs.Piece.{pieceAt, answerOf, pieceAnswer};
+ghost use Rattle.key.specs.Writer.{Reads};
 use crate::header::Header;
 use crate::header::Key;
 use crate::header::read_header;
@@ -15,7 +14,7 @@ pub enum Piece {
 
 // The piece at any place of a file.
 pub fn read_piece(file: &[u8], at: usize) -> Piece
-    ensures { λ r. ⌜ (r ≡ pieceAt (before file) at) × (answerOf r ≡ pieceAnswer (before file) at) ⌝ }
+    ensures { λ r. ⌜ Reads (before file) at r ⌝ }
 {
     let end = file.len();
     if end <= at {

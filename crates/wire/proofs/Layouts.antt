@@ -6,9 +6,9 @@ use native.Mathlib.Nat.{zero-add}
 use native.Mathlib.Omega.{arith}
 use lib.ListN.{length, take, drop, length-append, length-drop}
 use lib.Seq.{getD-drop, drop-drop, drop-at, take-add}
-use Rattle.wire.specs.Number.{beValue, numAt, beBytes}
+use Rattle.wire.specs.Number.{beValue, Bytes, numAt, beBytes}
 use Rattle.wire.specs.Layout.{extent, valuesAt, valueBytes, Fit}
-use Rattle.wire.proofs.Numbers.{num-in, length-bytes, value-bytes, Bytes, bytes-value, value-below}
+use Rattle.wire.proofs.Numbers.{num-in, length-bytes, value-bytes, bytes-value, value-below}
 
 pub length-values : (ws vs : List ℕ) → length (valueBytes ws vs) ≡ extent ws
 length-values [] vs = refl

@@ -10,7 +10,7 @@ use borrow.Author.Tests.{le-leb, lt-leb}
 use lib.ListN.{length, take, drop, getD, length-append, length-drop}
 use lib.Seq.{sets, sets-eq, getD-append-add, getD-drop, take-suc}
 use mathlib.Core.List.{append-assoc}
-use Rattle.wire.specs.Number.{beValue, numAt, beBytes, lesser}
+use Rattle.wire.specs.Number.{beValue, Bytes, numAt, beBytes, lesser}
 use Rattle.wire.specs.Patch.{patch}
 use Rattle.wire.proofs.Checks.{below-or}
 use Rattle.wire.proofs.Patches.{patch-at}
@@ -62,10 +62,6 @@ unfolding beValue
 value-patch zero b at x l i h = refl
 value-patch (suc w) b at x l i h =
     rw (value-patch w b at x l i (omega arith), add-assoc at i w, patch-at b at x l (i + w) (omega arith))
-
--- every element is a byte
-pub Bytes : List ℕ → Type 0
-Bytes s = (i : ℕ) → getD s i 0 < 256
 
 -- the value of bytes gives the bytes
 pub bytes-value : (w : ℕ) (s : List ℕ) (p : ℕ) → Bytes s → p + w ≤ length s → beBytes w (beValue w s p) ≡ take w (drop p s)

@@ -1,5 +1,5 @@
 -- Big-endian numbers, over their width in bytes.
-use Prim.Native.Nat.{ℕ, zero, suc, _+_, _-_, _*_, _/_, _%_, _^_, _≤_}
+use Prim.Native.Nat.{ℕ, zero, suc, _+_, _-_, _*_, _/_, _%_, _^_, _<_, _≤_}
 use mathlib.Core.Path.{_≡_}
 use mathlib.Core.List.{List, [], _∷_, _++_}
 use lib.ListN.{length, getD}
@@ -14,6 +14,10 @@ use Rattle.wire.specs.declared.number.Bits.the-variants.{Held, Wide}
 unfoldable pub beValue : ℕ → List ℕ → ℕ → ℕ
 beValue zero s p = 0
 beValue (suc w) s p = beValue w s p * 256 + getD s (p + w) 0
+
+-- every element is a byte, as in every lent slice of bytes
+unfoldable pub Bytes : List ℕ → Type 0
+Bytes s = (i : ℕ) → getD s i 0 < 256
 
 -- the number of w bytes at p; 0 unless all of them are there
 unfoldable pub numAt : ℕ → List ℕ → ℕ → ℕ

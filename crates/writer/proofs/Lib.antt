@@ -1,4 +1,1 @@
-pub mod RoundTrips
 pub mod Stores
-pub mod WriteAgain
-pub mod Writes

@@ -10,10 +10,11 @@ ghost use Rattle.wire.specs.Number.{bitsOf};
 ghost use Rattle.wire.specs.Patch.{patch};
 ghost use Rattle.wire.specs.Text.{textSize};
 ghost use Rattle.key.specs.Header.{keyLayout};
-ghost use Rattle.writer.specs.Writer.{nameBytes, numbersOf, namesShort, sumBytes, writeAnswer, writeBuffer};
+ghost use Rattle.key.specs.Writer.{nameBytes, numbersOf, namesShort, sumBytes, Writes};
 use crate::store::put_text;
 use crate::store::put_values;
 use key::header::FIXED;
+use key::header::Fields;
 use key::header::is_formed;
 use wire::Answer;
 use wire::finished;
@@ -22,17 +23,6 @@ use wire::number::bits_of;
 use wire::refused;
 
 mod store;
-
-// The fields of a key header but KeyLen, which the writer works out.
-pub struct Fields {
-    pub nbytes: u32,
-    pub version: u32,
-    pub objlen: u32,
-    pub datime: u32,
-    pub cycle: i32,
-    pub seekkey: u64,
-    pub seekpdir: u64,
-}
 
 // Writes three strings, one after the other, at the front of a part.
 fn put_names(part: &mut [u8], class: &[u8], name: &[u8], title: &[u8])
@@ -80,8 +70,7 @@ fn put_header(
 // Writes a header at the place SeekKey of a buffer. Refused: 15 for a string over 254 bytes, 16 for a header
 // that is not well formed or a value that does not fit its field, 17 for a record that the buffer cannot hold.
 pub fn write_key(f: Fields, class: &[u8], name: &[u8], title: &[u8], buf: &mut [u8]) -> Answer
-    ensures { λ r. ⌜ (r ≡ writeAnswer f (before class) (before name) (before title) (before buf))
-        × (after buf ≡ writeBuffer f (before class) (before name) (before title) (before buf)) ⌝ }
+    ensures { λ r. ⌜ Writes f (before class) (before name) (before title) (before buf) (after buf) r ⌝ }
 {
     if 254 < class.len() {
         return refused(15, 0);

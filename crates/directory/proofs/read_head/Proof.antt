@@ -23,7 +23,7 @@ abbrev start : tie.After-k → tie.Start
 start c = c .before .before .before .before
 
 there : (c : tie.After-k) → pieceAt (now (start c .args .file)) (100) ≡ Record (key c)
-there c = sym (c .before .before .read-piece .ensures .0) ∙ c .k .given .1
+there c = sym (c .before .before .read-piece .ensures .piece) ∙ c .k .given .1
 
 -- a record that is no head
 refused : (c : tie.After-k) → (All (headRecord (now (start c .args .file)) (key c)) → ⊥)
@@ -33,7 +33,7 @@ refused c h = on-record _ _ (there c) (sym (not-picked (headRecord (now (start c
 
 returns : tie.Need-returns
 unfolding headIn
-returns c = on-other _ _ (c .before .read-piece .ensures .0) (c .match .keys2)
+returns c = on-other _ _ (c .before .read-piece .ensures .piece) (c .match .keys2)
 
 returns-2 : tie.Need-returns-2
 returns-2 c =

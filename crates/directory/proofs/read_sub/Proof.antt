@@ -26,7 +26,7 @@ abbrev start : tie.After-k → tie.Start
 start c = c .before .before .before .before
 
 there : (c : tie.After-k) → pieceAt (now (start c .args .file)) (start c .args .at) ≡ Record (key c)
-there c = sym (c .before .before .read-piece .ensures .0) ∙ c .k .given .1
+there c = sym (c .before .before .read-piece .ensures .piece) ∙ c .k .given .1
 
 lies : (c : tie.After-k) → (start c .args .at + key c .nbytes < 18446744073709551616) × (key c .keylen ≤ key c .nbytes)
 lies c = let l = record-there _ _ (there c) in (omega arith, l .1)
@@ -55,7 +55,7 @@ refused c h = after-key (unpacked c) (not-kept _ (sym (c .before .before .read-d
 
 returns : tie.Need-returns
 unfolding subIn
-returns c = on-other _ _ (c .before .read-piece .ensures .0) (c .match .keys2)
+returns c = on-other _ _ (c .before .read-piece .ensures .piece) (c .match .keys2)
 
 returns-2 : tie.Need-returns-2
 unfolding subIn

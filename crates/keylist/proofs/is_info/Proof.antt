@@ -23,11 +23,11 @@ abbrev start : tie.After-k → tie.Start
 start c = c .before .before .before .before
 
 there : (c : tie.After-k) → pieceAt (now (start c .args .file)) (start c .args .at) ≡ Record (key c)
-there c = sym (c .before .before .read-piece .ensures .0) ∙ c .k .given .1
+there c = sym (c .before .before .read-piece .ensures .piece) ∙ c .k .given .1
 
 returns : tie.Need-returns
 unfolding infoIn
-returns c = on-other _ _ (c .before .read-piece .ensures .0) (c .match .keys2)
+returns c = on-other _ _ (c .before .read-piece .ensures .piece) (c .match .keys2)
 
 returns-2 : tie.Need-returns-2
 unfolding infoIn

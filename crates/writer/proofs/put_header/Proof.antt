@@ -6,8 +6,8 @@ use Rattle.wire.specs.Number.{bitsOf}
 use Rattle.wire.proofs.Layouts.{length-values}
 use Rattle.wire.proofs.Patches.{part-then}
 use Rattle.key.specs.Header.{keyLayout}
-use Rattle.writer.specs.Writer.{numbersOf, nameBytes}
-use Rattle.writer.proofs.Writes.{length-names}
+use Rattle.key.specs.Writer.{numbersOf, nameBytes}
+use Rattle.key.proofs.Writes.{length-names}
 use borrow.Author.Needs.{needs}
 use Rattle.writer.proofs.put_header.Statement.{statement}
 use Rattle.writer.proofs.put_header.Tie as tie

@@ -2,7 +2,7 @@ use mathlib.Core.List.{_++_}
 use lib.ListN.{length-append}
 use Rattle.wire.proofs.Patches.{part-then}
 use Rattle.wire.proofs.Texts.{length-text}
-use Rattle.writer.specs.Writer.{nameBytes}
+use Rattle.key.specs.Writer.{nameBytes}
 use native.Mathlib.Omega.{arith}
 use denote.Ref.{now}
 use Rattle.wire.specs.Text.{textSize, textBytes}

@@ -10,8 +10,9 @@ use Rattle.wire.specs.Number.{bitsOf}
 use Rattle.wire.specs.Text.{textSize}
 use Rattle.wire.proofs.Patches.{patch-part}
 use Rattle.key.proofs.Headers.{from-within, from-not-within}
-use Rattle.writer.specs.Writer.{headerBytes, keyFits}
-use Rattle.writer.proofs.Writes.{Accepted, from-wide, from-bits, key-fits, key-limits, inside, long-name, bad-field, no-room, wrote}
+use Rattle.key.specs.Writer.{headerBytes, keyFits}
+use Rattle.key.proofs.RoundTrips.{keeps}
+use Rattle.key.proofs.Writes.{Accepted, from-wide, from-bits, key-fits, key-limits, inside, long-name, bad-field, no-room, wrote}
 use borrow.Author.Needs.{needs}
 use Rattle.writer.proofs.write_key.Statement.{statement}
 use Rattle.writer.proofs.write_key.Tie as tie
@@ -51,19 +52,19 @@ refused-requires : tie.Need-refused-requires
 refused-requires c κs = search needs
 
 returns : tie.Need-returns
-returns c = long-name _ _ _ _ _ (λ h. omega (arith, h)) (c .refused .ensures)
+returns c = keeps _ _ _ _ _ (omega arith) (long-name _ _ _ _ _ (λ h. omega (arith, h)) (c .refused .ensures))
 
 refused-requires-2 : tie.Need-refused-requires-2
 refused-requires-2 c κs = search needs
 
 returns-2 : tie.Need-returns-2
-returns-2 c = long-name _ _ _ _ _ (λ h. omega (arith, h)) (c .refused2 .ensures)
+returns-2 c = keeps _ _ _ _ _ (omega arith) (long-name _ _ _ _ _ (λ h. omega (arith, h)) (c .refused2 .ensures))
 
 refused-requires-3 : tie.Need-refused-requires-3
 refused-requires-3 c κs = search needs
 
 returns-3 : tie.Need-returns-3
-returns-3 c = long-name _ _ _ _ _ (λ h. omega (arith, h)) (c .refused3 .ensures)
+returns-3 c = keeps _ _ _ _ _ (omega arith) (long-name _ _ _ _ _ (λ h. omega (arith, h)) (c .refused3 .ensures))
 
 add-sum : tie.Need-add-sum
 add-sum c = search needs
@@ -99,20 +100,20 @@ returns-4 : tie.Need-returns-4
 returns-4 c =
     let f = short-start (c .before .before .before .before .before) .args .f in
     let i : toZ w32 (ofZ w32 (f .cycle)) ≡ f .cycle = search needs in
-    bad-field _ _ _ _ _ (omega arith)
-    (λ h. from-wide i (sym (c .before .enum-told .given .1) ∙ c .before .before .before .bits-of .ensures) (h .0)) (c .refused4 .ensures)
+    keeps _ _ _ _ _ (omega arith) (bad-field _ _ _ _ _ (omega arith)
+    (λ h. from-wide i (sym (c .before .enum-told .given .1) ∙ c .before .before .before .bits-of .ensures) (h .0)) (c .refused4 .ensures))
 
 refused-requires-5 : tie.Need-refused-requires-5
 refused-requires-5 c κs = search needs
 
 returns-5 : tie.Need-returns-5
-returns-5 c = bad-field _ _ _ _ _ (omega arith) (λ h. omega (arith, h .1 .0)) (c .refused5 .ensures)
+returns-5 c = keeps _ _ _ _ _ (omega arith) (bad-field _ _ _ _ _ (omega arith) (λ h. omega (arith, h .1 .0)) (c .refused5 .ensures))
 
 refused-requires-6 : tie.Need-refused-requires-6
 refused-requires-6 c κs = search needs
 
 returns-6 : tie.Need-returns-6
-returns-6 c = bad-field _ _ _ _ _ (omega arith) (λ h. omega (arith, h .1 .1 .0)) (c .refused6 .ensures)
+returns-6 c = keeps _ _ _ _ _ (omega arith) (bad-field _ _ _ _ _ (omega arith) (λ h. omega (arith, h .1 .1 .0)) (c .refused6 .ensures))
 
 cast-is-formed : tie.Need-cast-is-formed
 cast-is-formed c = search needs
@@ -126,8 +127,8 @@ refused-requires-7 c κs = search needs
 returns-7 : tie.Need-returns-7
 unfolding textSize
 returns-7 c =
-    bad-field _ _ _ _ _ (omega arith)
-    (λ h. from-not-within _ (c .before .before .is-formed .ensures) (c .before .if6 .taken) (key-limits _ _ _ _ h)) (c .refused7 .ensures)
+    keeps _ _ _ _ _ (omega arith) (bad-field _ _ _ _ _ (omega arith)
+    (λ h. from-not-within _ (c .before .before .is-formed .ensures) (c .before .if6 .taken) (key-limits _ _ _ _ h)) (c .refused7 .ensures))
 
 cast-if7 : tie.Need-cast-if7
 cast-if7 c = search needs
@@ -139,7 +140,7 @@ refused-requires-8 : tie.Need-refused-requires-8
 refused-requires-8 c κs = search needs
 
 returns-8 : tie.Need-returns-8
-returns-8 c = no-room _ _ _ _ _ (omega arith) (key-there (c .before .before)) (omega arith) (c .refused8 .ensures)
+returns-8 c = keeps _ _ _ _ _ (omega arith) (no-room _ _ _ _ _ (omega arith) (key-there (c .before .before)) (omega arith) (c .refused8 .ensures))
 
 sub-put-header : tie.Need-sub-put-header
 sub-put-header c = search needs
@@ -166,7 +167,8 @@ returns-9 : tie.Need-returns-9
 unfolding textSize headerBytes
 returns-9 c =
     let h = accepted (c .before .before .before .before .before) in
-    wrote _ _ _ _ _ h (c .finished .ensures) (patch-part _ _ _ _ (inside _ _ _ _ _ h) (c .before .before .before .put-header .ensures))
+    keeps _ _ _ _ _ (omega arith)
+    (wrote _ _ _ _ _ h (c .finished .ensures) (patch-part _ _ _ _ (inside _ _ _ _ _ h) (c .before .before .before .put-header .ensures)))
 
 pub write-key-spec : {M : Type 1} → statement M
 write-key-spec =

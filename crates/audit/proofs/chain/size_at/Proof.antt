@@ -24,13 +24,13 @@ enum-known-c : tie.Need-enum-known-c
 enum-known-c c = search needs
 
 returns : tie.Need-returns
-returns c = ap stepOf (sym (c .before .before .k .given .1) ∙ c .before .before .before .before .read-piece .ensures .0)
+returns c = ap stepOf (sym (c .before .before .k .given .1) ∙ c .before .before .before .before .read-piece .ensures .piece)
 
 returns-2 : tie.Need-returns-2
-returns-2 c = ap stepOf (sym (c .before .n .given .1) ∙ c .before .before .before .read-piece .ensures .0)
+returns-2 c = ap stepOf (sym (c .before .n .given .1) ∙ c .before .before .before .read-piece .ensures .piece)
 
 returns-3 : tie.Need-returns-3
-returns-3 c = ap stepOf (sym (c .before .c .given .1) ∙ c .before .before .before .read-piece .ensures .0)
+returns-3 c = ap stepOf (sym (c .before .c .given .1) ∙ c .before .before .before .read-piece .ensures .piece)
 
 pub size-at-spec : {M : Type 1} → statement M
 size-at-spec =

@@ -68,7 +68,7 @@ slice-read-if3 : tie.Need-slice-read-if3
 slice-read-if3 c = let a = c .before .before .before .before .before .before .before .before .before .before .before .before .before .before .before .before .before .before .before .before .before .before .args in let o = sought (now (a .start)) (now (a .part)) (now (a .owner)) ((c .before .before .before .before .before .before .before .before .before .before .before .before .before .before .before .k .given .0 .0) .seekkey) _ (c .before .before .before .before .before .before .before .before .before .before .before .before .before .before .before .before .before .before .before .before .before .before .pre) (c .before .before .before .before .before .before .before .before .before .before .before .before .before .seek-row .ensures) (c .before .before .before .before .before .before .before .before .before .before .before .row .given .1) in omega (arith, o .part)
 
 returns-6 : tie.Need-returns-6
-returns-6 c = let a = c .before .before .before .before .before .before .before .before .before .before .before .before .before .before .before .before .before .before .before .before .before .before .before .args in let o = sought (now (a .start)) (now (a .part)) (now (a .owner)) ((c .before .before .before .before .before .before .before .before .before .before .before .before .before .before .before .before .k .given .0 .0) .seekkey) _ (c .before .before .before .before .before .before .before .before .before .before .before .before .before .before .before .before .before .before .before .before .before .before .before .pre) (c .before .before .before .before .before .before .before .before .before .before .before .before .before .before .seek-row .ensures) (c .before .before .before .before .before .before .before .before .before .before .before .before .row .given .1) in let h = entry (now (a .file)) (now (a .start)) (a .dir) (a .at) (c .before .before .before .before .before .before .before .before .before .before .before .before .before .before .before .before .k .given .0 .0) (o .start) (sym (c .before .before .before .before .before .before .before .before .before .before .read-piece .ensures .0) ∙ c .before .before .before .before .before .before .before .before .l .given .1) (c .before .before .before .before .before .same-at .ensures) (c .before .before .before .before .if1 .left) (c .before .before .if2 .left) in copy-stopped _ _ _ _ _ (copy-taken (now (a .file)) (now (a .start)) (a .dir) (a .seek) (a .end) (now (a .part)) (now (a .owner)) (a .at) (sym (c .before .before .before .before .before .before .before .before .before .before .before .before .before .before .before .before .k .given .1) ∙ c .before .before .before .before .before .before .before .before .before .before .before .before .before .before .before .before .before .before .read-copy .ensures) h (o .row) (c .if3 .taken))
+returns-6 c = let a = c .before .before .before .before .before .before .before .before .before .before .before .before .before .before .before .before .before .before .before .before .before .before .before .args in let o = sought (now (a .start)) (now (a .part)) (now (a .owner)) ((c .before .before .before .before .before .before .before .before .before .before .before .before .before .before .before .before .k .given .0 .0) .seekkey) _ (c .before .before .before .before .before .before .before .before .before .before .before .before .before .before .before .before .before .before .before .before .before .before .before .pre) (c .before .before .before .before .before .before .before .before .before .before .before .before .before .before .seek-row .ensures) (c .before .before .before .before .before .before .before .before .before .before .before .before .row .given .1) in let h = entry (now (a .file)) (now (a .start)) (a .dir) (a .at) (c .before .before .before .before .before .before .before .before .before .before .before .before .before .before .before .before .k .given .0 .0) (o .start) (sym (c .before .before .before .before .before .before .before .before .before .before .read-piece .ensures .piece) ∙ c .before .before .before .before .before .before .before .before .l .given .1) (c .before .before .before .before .before .same-at .ensures) (c .before .before .before .before .if1 .left) (c .before .before .if2 .left) in copy-stopped _ _ _ _ _ (copy-taken (now (a .file)) (now (a .start)) (a .dir) (a .seek) (a .end) (now (a .part)) (now (a .owner)) (a .at) (sym (c .before .before .before .before .before .before .before .before .before .before .before .before .before .before .before .before .k .given .1) ∙ c .before .before .before .before .before .before .before .before .before .before .before .before .before .before .before .before .before .before .read-copy .ensures) h (o .row) (c .if3 .taken))
 
 mark-of-requires : tie.Need-mark-of-requires
 mark-of-requires c κs = search needs
@@ -98,7 +98,7 @@ same-length-2 : tie.Need-same-length-2
 same-length-2 c = search needs
 
 returns-7 : tie.Need-returns-7
-returns-7 c = let a = c .before .before .before .before .before .before .before .before .before .before .before .before .before .before .before .before .before .before .before .before .before .before .before .before .before .args in let o = sought (now (a .start)) (now (a .part)) (now (a .owner)) ((c .before .before .before .before .before .before .before .before .before .before .before .before .before .before .before .before .before .before .k .given .0 .0) .seekkey) _ (c .before .before .before .before .before .before .before .before .before .before .before .before .before .before .before .before .before .before .before .before .before .before .before .before .before .pre) (c .before .before .before .before .before .before .before .before .before .before .before .before .before .before .before .before .seek-row .ensures) (c .before .before .before .before .before .before .before .before .before .before .before .before .before .before .row .given .1) in let h = entry (now (a .file)) (now (a .start)) (a .dir) (a .at) (c .before .before .before .before .before .before .before .before .before .before .before .before .before .before .before .before .before .before .k .given .0 .0) (o .start) (sym (c .before .before .before .before .before .before .before .before .before .before .before .before .read-piece .ensures .0) ∙ c .before .before .before .before .before .before .before .before .before .before .l .given .1) (c .before .before .before .before .before .before .before .same-at .ensures) (c .before .before .before .before .before .before .if1 .left) (c .before .before .before .before .if2 .left) in given (now (a .part)) (now (a .owner)) _ _ (a .dir) _ (o .part) (copy-given (now (a .file)) (now (a .start)) (a .dir) (a .seek) (a .end) (now (a .part)) (now (a .owner)) (a .at) (sym (c .before .before .before .before .before .before .before .before .before .before .before .before .before .before .before .before .before .before .k .given .1) ∙ c .before .before .before .before .before .before .before .before .before .before .before .before .before .before .before .before .before .before .before .before .read-copy .ensures) h (o .row) (c .before .before .if3 .left) (mark-is (now (a .file)) _ (sym (c .before .before .before .before .before .before .before .before .before .before .before .before .read-piece .ensures .0) ∙ c .before .before .before .before .before .before .before .before .before .before .l .given .1) (c .before .mark-of .ensures)))
+returns-7 c = let a = c .before .before .before .before .before .before .before .before .before .before .before .before .before .before .before .before .before .before .before .before .before .before .before .before .before .args in let o = sought (now (a .start)) (now (a .part)) (now (a .owner)) ((c .before .before .before .before .before .before .before .before .before .before .before .before .before .before .before .before .before .before .k .given .0 .0) .seekkey) _ (c .before .before .before .before .before .before .before .before .before .before .before .before .before .before .before .before .before .before .before .before .before .before .before .before .before .pre) (c .before .before .before .before .before .before .before .before .before .before .before .before .before .before .before .before .seek-row .ensures) (c .before .before .before .before .before .before .before .before .before .before .before .before .before .before .row .given .1) in let h = entry (now (a .file)) (now (a .start)) (a .dir) (a .at) (c .before .before .before .before .before .before .before .before .before .before .before .before .before .before .before .before .before .before .k .given .0 .0) (o .start) (sym (c .before .before .before .before .before .before .before .before .before .before .before .before .read-piece .ensures .piece) ∙ c .before .before .before .before .before .before .before .before .before .before .l .given .1) (c .before .before .before .before .before .before .before .same-at .ensures) (c .before .before .before .before .before .before .if1 .left) (c .before .before .before .before .if2 .left) in given (now (a .part)) (now (a .owner)) _ _ (a .dir) _ (o .part) (copy-given (now (a .file)) (now (a .start)) (a .dir) (a .seek) (a .end) (now (a .part)) (now (a .owner)) (a .at) (sym (c .before .before .before .before .before .before .before .before .before .before .before .before .before .before .before .before .before .before .k .given .1) ∙ c .before .before .before .before .before .before .before .before .before .before .before .before .before .before .before .before .before .before .before .before .read-copy .ensures) h (o .row) (c .before .before .if3 .left) (mark-is (now (a .file)) _ (sym (c .before .before .before .before .before .before .before .before .before .before .before .before .read-piece .ensures .piece) ∙ c .before .before .before .before .before .before .before .before .before .before .l .given .1) (c .before .mark-of .ensures)))
 
 pub one-copy-spec : {M : Type 1} → statement M
 one-copy-spec =

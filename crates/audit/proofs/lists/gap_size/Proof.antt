@@ -30,13 +30,13 @@ enum-told-2 : tie.Need-enum-told-2
 enum-told-2 c = search needs
 
 returns-2 : tie.Need-returns-2
-returns-2 c = (ap gapOf (sym (c .enum-told .given .1) ∙ c .before .before .read-piece .ensures .0), omega arith)
+returns-2 c = (ap gapOf (sym (c .enum-told .given .1) ∙ c .before .before .read-piece .ensures .piece), omega arith)
 
 returns-3 : tie.Need-returns-3
-returns-3 c = (ap gapOf (sym (c .before .n .given .1) ∙ c .before .before .before .read-piece .ensures .0), omega arith)
+returns-3 c = (ap gapOf (sym (c .before .n .given .1) ∙ c .before .before .before .read-piece .ensures .piece), omega arith)
 
 returns-4 : tie.Need-returns-4
-returns-4 c = (ap gapOf (sym (c .enum-told2 .given .1) ∙ c .before .before .read-piece .ensures .0), omega arith)
+returns-4 c = (ap gapOf (sym (c .enum-told2 .given .1) ∙ c .before .before .read-piece .ensures .piece), omega arith)
 
 pub gap-size-spec : {M : Type 1} → statement M
 gap-size-spec =

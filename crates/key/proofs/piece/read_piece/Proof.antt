@@ -4,6 +4,7 @@ use Prim.Native.Nat.{_+_}
 use mathlib.Core.Path.{_≡_, _∙_, sym}
 use Rattle.key.specs.Header.{headerIn}
 use Rattle.key.specs.declared.header.Header.the-variants.{Good}
+use Rattle.key.proofs.WriteAgain.{reads}
 use Rattle.key.proofs.Pieces.{Numbered, no-piece, gap-there, bad-header, other-seek, record-there, size-plus, size-minus}
 use borrow.Author.Needs.{needs}
 use Rattle.key.proofs.piece.read_piece.Statement.{statement}
@@ -24,7 +25,7 @@ header : (c : tie.After-k)
 header c = sym (c .k .given .1) ∙ c .before .before .read-header .ensures
 
 returns : tie.Need-returns
-returns c = no-piece _ _ (λ f. omega (arith, f))
+returns c = reads (no-piece _ _ (λ f. omega (arith, f)))
 
 sub-left : tie.Need-sub-left
 sub-left c = search needs
@@ -36,7 +37,7 @@ returns-2 : tie.Need-returns-2
 returns-2 c =
     let a = c .before .before .before .before .before .args in
     let e = size-plus (now (a .file)) (a .at) (omega arith) in
-    no-piece _ _ (λ f. omega (arith, f))
+    reads (no-piece _ _ (λ f. omega (arith, f)))
 
 cast-if4 : tie.Need-cast-if4
 cast-if4 c = search needs
@@ -45,7 +46,7 @@ returns-3 : tie.Need-returns-3
 returns-3 c =
     let a = c .before .before .before .before .before .before .args in
     let e = size-plus (now (a .file)) (a .at) (omega arith) in
-    no-piece _ _ (λ f. omega (arith, f))
+    reads (no-piece _ _ (λ f. omega (arith, f)))
 
 cast-read-header : tie.Need-cast-read-header
 cast-read-header c = search needs
@@ -64,13 +65,13 @@ enum-told c = search needs
 
 returns-4 : tie.Need-returns-4
 returns-4 c =
-    bad-header _ _ (numbered (c .before .before .before)) (sym (c .enum-told .given .1) ∙ c .before .before .read-header .ensures)
+    reads (bad-header _ _ (numbered (c .before .before .before)) (sym (c .enum-told .given .1) ∙ c .before .before .read-header .ensures))
 
 returns-5 : tie.Need-returns-5
-returns-5 c = let d = c .before .before in other-seek _ _ (numbered (d .before .before .before)) (header d) (λ z. omega arith)
+returns-5 c = let d = c .before .before in reads (other-seek _ _ (numbered (d .before .before .before)) (header d) (λ z. omega arith))
 
 returns-6 : tie.Need-returns-6
-returns-6 c = let d = c .before .before in record-there _ _ (numbered (d .before .before .before)) (header d) (omega arith)
+returns-6 c = let d = c .before .before in reads (record-there _ _ (numbered (d .before .before .before)) (header d) (omega arith))
 
 sub-size : tie.Need-sub-size
 sub-size c = search needs
@@ -79,7 +80,7 @@ returns-7 : tie.Need-returns-7
 returns-7 c =
     let a = c .before .before .before .before .before .args in
     let e = size-minus (now (a .file)) (a .at) (omega arith) (omega arith) in
-    no-piece _ _ (λ f. omega (arith, f))
+    reads (no-piece _ _ (λ f. omega (arith, f)))
 
 cast-if7 : tie.Need-cast-if7
 cast-if7 c = search needs
@@ -88,7 +89,7 @@ returns-8 : tie.Need-returns-8
 returns-8 c =
     let a = c .before .before .before .before .before .before .args in
     let e = size-minus (now (a .file)) (a .at) (omega arith) (omega arith) in
-    no-piece _ _ (λ f. omega (arith, f))
+    reads (no-piece _ _ (λ f. omega (arith, f)))
 
 add-t16 : tie.Need-add-t16
 add-t16 c = search needs
@@ -97,7 +98,7 @@ returns-9 : tie.Need-returns-9
 returns-9 c =
     let a = c .before .before .before .before .before .before .args in
     let e = size-minus (now (a .file)) (a .at) (omega arith) (omega arith) in
-    gap-there _ _ (omega arith) (omega arith) (omega arith)
+    reads (gap-there _ _ (omega arith) (omega arith) (omega arith))
 
 pub read-piece-spec : {M : Type 1} → statement M
 read-piece-spec =

@@ -1,19 +1,24 @@
--- The key writer: document 01, "The key writer takes the fields but KeyLen ...".
-use Prim.Native.Nat.{ℕ, _+_, _^_}
+-- Headers as they are written: document 01, "The key writer takes the fields but KeyLen ..."; and that reading and writing undo each
+-- other.
+use Prim.Native.Nat.{ℕ, _+_, _^_, _≤_}
 use mathlib.Core.List.{List, [], _∷_, _++_}
-use lib.ListN.{length}
+use mathlib.Core.Path.{_≡_}
+use lib.ListN.{length, take, drop}
 use lib.Signed.{mag}
 use lib.Dec.{leb, eqb}
 use Rattle.wire.specs.Answer.{done, refusal}
-use Rattle.wire.specs.Check.{Check, lt, all, pick}
+use Rattle.wire.specs.Check.{Check, lt, all, All, pick}
 use Rattle.wire.specs.Layout.{offsetWidth, valueBytes}
-use Rattle.wire.specs.Number.{bitsOf}
+use Rattle.wire.specs.Number.{Bytes, bitsOf}
 use Rattle.wire.specs.Patch.{patch}
-use Rattle.wire.specs.Text.{textSize, lengthFits, textOf, textBytes}
+use Rattle.wire.specs.Text.{textSize, lengthFits, textOf, textBytes, contentOf}
 use Rattle.wire.specs.declared.Answer.{Answer}
-use Rattle.key.specs.Header.{keyLayout, fixedPart, wellFormed}
+use Rattle.key.specs.Header.{keyLayout, fixedPart, wellFormed, plain}
+use Rattle.key.specs.Piece.{pieceAt, answerOf, pieceAnswer}
 use Rattle.key.specs.declared.header.Key.{Key}
-use Rattle.writer.specs.declared.Fields.{Fields}
+use Rattle.key.specs.declared.header.Fields.{Fields}
+use Rattle.key.specs.declared.piece.Piece.{Piece}
+use Rattle.key.specs.declared.piece.Piece.the-variants.{Record}
 
 -- class, name and title as they are written
 unfoldable pub nameBytes : List ℕ → List ℕ → List ℕ → List ℕ
@@ -84,3 +89,31 @@ writeAnswer f class name title buf =
 unfoldable pub writeBuffer : Fields → List ℕ → List ℕ → List ℕ → List ℕ → List ℕ
 writeBuffer f class name title buf =
     pick (eqb (writeAnswer f class name title buf .number) 0) (patch buf (f .seekkey) (headerBytes f class name title)) buf
+
+-- "every written header reads back with the same fields": the reader at SeekKey finds in w the record with these fields and strings
+pub record ReadBack (f : Fields) (class name title w : List ℕ) : Type 0 where
+  pub key : pieceAt w (f .seekkey) ≡ Record (keyOf f class name title)
+  pub class-is : contentOf w (keyOf f class name title .class) ≡ class
+  pub name-is : contentOf w (keyOf f class name title .name) ≡ name
+  pub title-is : contentOf w (keyOf f class name title .title) ≡ title
+
+-- what the key writer promises for a buffer before and after
+pub record Writes (f : Fields) (class name title buf buf′ : List ℕ) (r : Answer) : Type 0 where
+  pub answer : r ≡ writeAnswer f class name title buf
+  pub buffer : buf′ ≡ writeBuffer f class name title buf
+  pub back : r .number ≡ 0 → ReadBack f class name title buf′
+
+-- "every plain piece read and written again gives the same KeyLen bytes": the key k at p of the bytes s, with its strings, written
+-- into a buffer that holds the record
+pub record WrittenAgain (s : List ℕ) (p : ℕ) (k : Key) (buf : List ℕ) : Type 0 where
+  pub answer : writeAnswer (fieldsOf k) (contentOf s (k .class)) (contentOf s (k .name)) (contentOf s (k .title)) buf ≡ done (k .keylen)
+  pub buffer : writeBuffer (fieldsOf k) (contentOf s (k .class)) (contentOf s (k .name)) (contentOf s (k .title)) buf
+      ≡ patch buf p (take (k .keylen) (drop p s))
+
+-- what the reader at a place promises: the piece, its number, place and count, and that a plain record can be written again into
+-- every buffer that holds it
+pub record Reads (s : List ℕ) (p : ℕ) (r : Piece) : Type 0 where
+  pub piece : r ≡ pieceAt s p
+  pub answer : answerOf r ≡ pieceAnswer s p
+  pub again : (k : Key) → r ≡ Record k → All (plain k) → Bytes s → (buf : List ℕ) → p + k .nbytes ≤ length buf
+      → WrittenAgain s p k buf

@@ -16,21 +16,22 @@ use Rattle.wire.specs.Layout.{offsetWidth, valuesAt, valueBytes, Fit}
 use Rattle.wire.specs.Number.{numAt, signedOf, bitsOf}
 use Rattle.wire.specs.Patch.{patch}
 use Rattle.wire.specs.Text.{textSize, textIn, textOf, contentOf, textBytes}
+use Rattle.wire.specs.declared.Answer.{Answer}
 use Rattle.wire.specs.declared.text.Found.the-variants.{Held}
 use Rattle.wire.proofs.Checks.{all-yes}
 use Rattle.wire.proofs.Layouts.{length-values, read-written}
 use Rattle.wire.proofs.Patches.{length-patch, drop-patch}
 use Rattle.wire.proofs.Texts.{text-there}
 use Rattle.key.specs.Header.{keyLayout, fixedPart, keyFrom, wellFormed, keyAt}
 use Rattle.key.specs.Piece.{sized, pieceAt}
 use Rattle.key.specs.declared.header.Names.{Names}
 use Rattle.key.specs.declared.piece.Piece.the-variants.{Record}
 use Rattle.key.proofs.Headers.{Strings, strings, good}
 use Rattle.key.proofs.Names.{all-names}
 use Rattle.key.proofs.Pieces.{size-plus, record-there}
-use Rattle.writer.specs.Writer.{nameBytes, sumBytes, numbersOf, headerBytes, keyOf, namesShort, keyFits, writeAnswer, writeBuffer}
-use Rattle.writer.specs.declared.Fields.{Fields}
-use Rattle.writer.proofs.Writes.{Accepted, key-limits, inside, buffer-is}
+use Rattle.key.specs.Writer.{nameBytes, sumBytes, numbersOf, headerBytes, keyOf, namesShort, keyFits, writeAnswer, writeBuffer, ReadBack, Writes}
+use Rattle.key.specs.declared.header.Fields.{Fields}
+use Rattle.key.proofs.Writes.{Accepted, key-limits, inside, buffer-is}
 
 -- the bits of a signed number of two bytes
 signed-bits : (z : ℤ) → mag z < 32768 → signedOf 2 (bitsOf 2 z) ≡ z
@@ -188,18 +189,16 @@ module _ (f : Fields) (class name title buf : List ℕ) where
         sym (record-there out (f .seekkey) (record { is = sym first; low = omega (arith, h .key); fits = sized-there })
         (good out (f .seekkey) end strings-there key-there (h .key .1 .1 .1)) refl .0)
 
-  -- what was written reads back: the key with the same fields, and its three strings
-  pub record ReadBack (w : List ℕ) : Type 0 where
-    pub key : pieceAt w (f .seekkey) ≡ Record (keyOf f class name title)
-    pub class-is : contentOf w (keyOf f class name title .class) ≡ class
-    pub name-is : contentOf w (keyOf f class name title .name) ≡ name
-    pub title-is : contentOf w (keyOf f class name title .title) ≡ title
-
   -- every written header reads back with the same fields and strings
-  pub read-back : writeAnswer f class name title buf .number ≡ 0 → f .datime < 4294967296
-      → ReadBack (writeBuffer f class name title buf)
+  read-back : writeAnswer f class name title buf .number ≡ 0 → f .datime < 4294967296
+      → ReadBack f class name title (writeBuffer f class name title buf)
   unfolding keyOf
   read-back ok d =
       let h = accepted ok in
       rw (buffer-is f class name title buf h)
       (record { key = read-there h d; class-is = class-there h d .1; name-is = name-there h d .1; title-is = title-there h d .1 })
+
+  -- so what was written keeps the writer's promise
+  pub keeps : {r : Answer} {w : List ℕ} → f .datime < 4294967296
+      → (r ≡ writeAnswer f class name title buf) × (w ≡ writeBuffer f class name title buf) → Writes f class name title buf w r
+  keeps d h = record { answer = h .0; buffer = h .1; back = λ z. rw (h .1) (read-back (sym (ap (λ (a : Answer). a .number) (h .0)) ∙ z) d) }

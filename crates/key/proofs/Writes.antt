@@ -20,9 +20,9 @@ use Rattle.wire.specs.declared.number.Bits.the-variants as bits
 use Rattle.wire.proofs.Checks.{yes-all, not-all}
 use Rattle.wire.proofs.Layouts.{length-values}
 use Rattle.wire.proofs.Texts.{length-text}
 use Rattle.key.specs.Header.{keyLayout, fixedPart, limits}
-use Rattle.writer.specs.Writer.{nameBytes, sumBytes, numbersOf, headerBytes, keyOf, namesShort, keyFits, writeAnswer, writeBuffer}
-use Rattle.writer.specs.declared.Fields.{Fields}
+use Rattle.key.specs.Writer.{nameBytes, sumBytes, numbersOf, headerBytes, keyOf, namesShort, keyFits, writeAnswer, writeBuffer}
+use Rattle.key.specs.declared.header.Fields.{Fields}
 
 pub length-names : (a b c : List ℕ) → length (nameBytes a b c) ≡ textSize (length a) + textSize (length b) + textSize (length c)
 unfolding nameBytes

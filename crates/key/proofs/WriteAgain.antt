@@ -11,22 +11,22 @@ use lib.Seq.{drop-drop, take-add}
 use Rattle.wire.specs.Answer.{done}
 use Rattle.wire.specs.Check.{All}
 use Rattle.wire.specs.Layout.{offsetWidth, extent, valuesAt, valueBytes, Fit}
-use Rattle.wire.specs.Number.{signedOf, bitsOf}
+use Rattle.wire.specs.Number.{Bytes, signedOf, bitsOf}
 use Rattle.wire.specs.Patch.{patch}
 use Rattle.wire.specs.Text.{textSize, textOf, contentOf}
 use Rattle.wire.proofs.Checks.{below-or}
 use Rattle.wire.proofs.Layouts.{write-read, values-fit}
-use Rattle.wire.proofs.Numbers.{Bytes}
 use Rattle.wire.proofs.Texts.{Stands, read-length, read-again}
 use Rattle.key.specs.Header.{keyLayout, fixedPart, keyAt, sumOf}
-use Rattle.key.specs.Piece.{sizeAt, pieceAt}
+use Rattle.key.specs.Piece.{sizeAt, pieceAt, answerOf, pieceAnswer}
 use Rattle.key.specs.declared.header.Key.{Key}
 use Rattle.key.specs.declared.header.Names.{Names}
+use Rattle.key.specs.declared.piece.Piece.{Piece}
 use Rattle.key.specs.declared.piece.Piece.the-variants.{Record}
 use Rattle.key.proofs.Headers.{Strings, namesOf}
 use Rattle.key.proofs.Pieces.{Recorded, from-record}
-use Rattle.writer.specs.Writer.{nameBytes, sumBytes, numbersOf, headerBytes, keyOf, fieldsOf, namesShort, keyFits, writeAnswer, writeBuffer}
-use Rattle.writer.proofs.Writes.{Accepted, answer-is, buffer-is}
+use Rattle.key.specs.Writer.{nameBytes, sumBytes, numbersOf, headerBytes, keyOf, fieldsOf, namesShort, keyFits, writeAnswer, writeBuffer, WrittenAgain, Reads}
+use Rattle.key.proofs.Writes.{Accepted, answer-is, buffer-is}
 
 -- two stretches of a file, one after the other
 join : (s : List ℕ) (p q a b : ℕ) → q ≡ p + a → take a (drop p s) ++ take b (drop q s) ≡ take (a + b) (drop p s)
@@ -111,23 +111,26 @@ module _ (s : List ℕ) (p : ℕ) (b : Bytes s) (n : Names) (h : Recorded s p (k
     room = l;
   }
 
-  again : (buf : List ℕ) → k .seekkey + k .nbytes ≤ length buf
-      → (writeAnswer (fieldsOf k) class name title buf ≡ done (k .keylen))
-      × (writeBuffer (fieldsOf k) class name title buf ≡ patch buf p (take (k .keylen) (drop p s)))
+  again : (buf : List ℕ) → p + k .nbytes ≤ length buf → WrittenAgain s p k buf
   again buf l =
-      let a = accepted buf l in (
-        answer-is (fieldsOf k) class name title buf a ∙ ap done sum-is,
-        buffer-is (fieldsOf k) class name title buf a ∙ rw (header-again, h .place),
-      )
+      let a = accepted buf (omega (arith, l, h .place)) in record {
+        answer = answer-is (fieldsOf k) class name title buf a ∙ ap done sum-is;
+        buffer = buffer-is (fieldsOf k) class name title buf a ∙ rw (header-again, h .place);
+      }
 
 -- every plain piece that is read and written again gives the same KeyLen bytes: in any buffer that holds the record, the writer
 -- succeeds, and puts there the KeyLen bytes that stand at p in the file
-pub write-again : (s : List ℕ) (p : ℕ) (k : Key) (buf : List ℕ) → Bytes s → pieceAt s p ≡ Record k → k .keylen ≡ sumOf k
-    → k .seekkey + k .nbytes ≤ length buf
-    → (writeAnswer (fieldsOf k) (contentOf s (k .class)) (contentOf s (k .name)) (contentOf s (k .title)) buf ≡ done (k .keylen))
-    × (writeBuffer (fieldsOf k) (contentOf s (k .class)) (contentOf s (k .name)) (contentOf s (k .title)) buf
-    ≡ patch buf p (take (k .keylen) (drop p s)))
+write-again : (s : List ℕ) (p : ℕ) (k : Key) (buf : List ℕ) → Bytes s → pieceAt s p ≡ Record k → k .keylen ≡ sumOf k
+    → p + k .nbytes ≤ length buf → WrittenAgain s p k buf
 write-again s p k buf b e plain l =
     let r = from-record s p e in
     let i = r .header .is in
     rw i (again s p b (namesOf k) (rw i at r) (rw i at plain) buf (rw i at l))
+
+-- so a piece that was read keeps the reader's promise
+pub reads : {s : List ℕ} {p : ℕ} {r : Piece} → (r ≡ pieceAt s p) × (answerOf r ≡ pieceAnswer s p) → Reads s p r
+reads {s} {p} h = record {
+  piece = h .0;
+  answer = h .1;
+  again = λ k e plain b buf l. write-again s p k buf b (sym (h .0) ∙ e) (plain .0) l;
+}
