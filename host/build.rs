@@ -37,7 +37,14 @@ const SOURCES: [&str; 7] =
 
 /// The commit, with a word if the sources differ from it. None outside a checkout.
 fn commit(root: &Path) -> Option<String> {
-    let git = |arguments: &[&str]| said(Command::new("git").arg("-C").arg(root).args(arguments));
+    let git = |arguments: &[&str]| {
+        let mut git = Command::new("git");
+        // They are set where git itself starts a build, and may name another checkout.
+        for name in ["GIT_DIR", "GIT_WORK_TREE", "GIT_INDEX_FILE"] {
+            git.env_remove(name);
+        }
+        said(git.arg("-C").arg(root).args(arguments))
+    };
     let top = git(&["rev-parse", "--show-toplevel"])?;
     // The sources may stand in a checkout of something else.
     if Path::new(&top).canonicalize().ok()? != root.canonicalize().ok()? {

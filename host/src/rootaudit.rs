@@ -87,6 +87,7 @@ fn fail(errors: &mut dyn Write, message: &str) -> u8 {
 fn audit_all(options: &Options, audit: Audit, console: &mut Console) -> io::Result<u8> {
     let mut page = options.html.as_deref().map(page::create).transpose()?;
     let mut tally = Tally::new(options.expect);
+    let mut passed = Vec::new();
     for (nth, path) in options.files.iter().enumerate() {
         let left = (options.files.len() - nth) as u64;
         let _text = fault::expect(if_stopped(path, options, &tally.with_unread(left)));
@@ -98,10 +99,19 @@ fn audit_all(options: &Options, audit: Audit, console: &mut Console) -> io::Resu
             write_page(page, &finding)?;
         }
         tally.add(finding.status(), finding.stamp);
+        passed.extend(finding.stamp.filter(|_| finding.has_passed()).map(|stamp| (path, stamp)));
+    }
+    // The first may have changed while the others were audited.
+    for (path, _) in passed.iter().filter(|(path, stamp)| !stamp.is_at(path)) {
+        print(console.out, &Finding::failed(path, options, LATE.into()).text(path, options.json))?;
+        tally.withdraw();
     }
     print(console.out, &last_line(options, &tally))?;
     Ok(tally.status())
 }
+
+/// What is said of a file that passed and is no longer what it was when all are done.
+const LATE: &str = "no pass any more: it was changed, replaced or removed after it was audited";
 
 /// The page to its end.
 fn write_page(page: &mut File, finding: &Finding) -> io::Result<()> {

@@ -171,6 +171,27 @@ fn a_replacement_is_seen() {
     expect_failure(&link, &audit);
 }
 
+/// A file that passed and is changed while another is audited: its pass is taken back.
+#[test]
+fn a_late_change_is_seen() {
+    let first = store("fake_first.root", &one_root());
+    let second = store("fake_second.root", &[0; 50]);
+    let audit = |bytes: &[u8], _: [&mut [u32]; 3]| {
+        if bytes.len() == 50 {
+            thread::sleep(Duration::from_millis(30));
+            fs::write(&first, one_root()).unwrap();
+        }
+        Answer::success(1)
+    };
+    let (mut out, mut errors) = (Vec::new(), Vec::new());
+    let mut console = Console { out: &mut out, errors: &mut errors, terminal: None };
+    assert_eq!(run([first.clone().into(), second.into()], &audit, &mut console), FAILED);
+    let out = String::from_utf8(out).unwrap();
+    let last = "2 files: 1 passed, 0 refused, 1 not read: do not clear the disk\n";
+    let late = "no pass any more: it was changed, replaced or removed after it was audited";
+    assert!(out.ends_with(&(command::line(&first, late) + last)), "{out}");
+}
+
 /// A file that nobody touches is not said to have changed: reading it is no change.
 #[test]
 fn no_change_is_seen() {

@@ -4,6 +4,7 @@ mod command;
 
 use command::{shell, store, FAILED, PASSED, ROOTAUDIT, ROOTKEYS};
 use kirovadzun_host::gen::one_root;
+use std::fs;
 use std::path::Path;
 
 /// Standard output closed, open for reading only, and full.
@@ -47,6 +48,15 @@ fn why_it_is_lost() {
         assert_eq!(lost(how, ROOTAUDIT, &path).2, why);
         assert_eq!(lost(how, ROOTAUDIT, Path::new("--version")).2, why);
     }
+}
+
+/// The output is added to the file that is audited.
+#[test]
+fn output_into_the_file() {
+    let path = store("output_into.root", &one_root());
+    let (status, _, _) = shell("\"$0\" \"$1\" >> \"$1\"", ROOTAUDIT, &path);
+    assert_eq!(status, FAILED);
+    assert!(fs::read(&path).unwrap().ends_with(b"it was changed, replaced or removed after it was audited\n"));
 }
 
 /// Other outputs are good, however they were opened, and so is a closed input or a closed standard error.

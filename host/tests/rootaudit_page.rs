@@ -4,6 +4,7 @@ mod command;
 
 use command::{folder, rootaudit_in, FAILED, PASSED, REFUSED};
 use kirovadzun_host::gen::{nested, one_root, Rng};
+use kirovadzun_host::rootaudit::words::grouped;
 use std::fs;
 use std::path::Path;
 
@@ -120,6 +121,37 @@ fn an_entry() {
         &page,
         &["REFUSED: 13 at byte 257", "<tr class=\"fault\"><td class=\"n\">218</td>", "<path d=\"M706.04 104V4\""],
     );
+}
+
+/// Ten pieces around a fault, and how many of them begin behind it.
+fn around(page: &str) -> (usize, usize) {
+    let (_, section) = page.split_once("<h2>Around the fault</h2>").unwrap();
+    let (section, _) = section.split_once("</section>").unwrap();
+    let (before, behind) = section.split_once("<tr class=\"fault\">").unwrap();
+    let pieces = |text: &str| text.matches("<tr><td class=\"n\">").count();
+    (pieces(before), pieces(behind))
+}
+
+#[test]
+fn ten_pieces_around_a_fault() {
+    let folder = folder("page_around");
+    let built = nested::plan(&mut Rng::new(1), 100, 0).build();
+    let mut starts: Vec<usize> = built.sites.iter().map(|site| site.start).collect();
+    starts.sort();
+    let mut file = built.bytes.clone();
+    file[starts[50]..][..4].fill(0);
+    let (_, broken) = page(&folder, "a.root", &file);
+    assert_eq!(around(&broken), (10, 0));
+    expect(&broken, &["spectrum;1</td>", "Pieces that were reached, no verdict: 50"]);
+    // A copy in the first keys list that is followed by others.
+    let list = built.sites.iter().filter(|site| site.copies.len() > 1).min_by_key(|site| site.start).unwrap();
+    let mut file = built.bytes.clone();
+    file[list.copies[1] + 10] ^= 1;
+    let (_, entry) = page(&folder, "a.root", &file);
+    expect(&entry, &[&format!("REFUSED: 13 at byte {}", grouped(list.copies[1] as u64))]);
+    let (before, behind) = around(&entry);
+    assert_eq!(before + 1 + behind, 10);
+    assert!(before >= 4, "{before}");
 }
 
 /// END and the place may lie anywhere, and the file may be empty.

@@ -90,9 +90,7 @@ impl Mapped {
 
     /// Whether the open file and the file that now stands at the path have the stamp that it was opened with.
     pub fn is_unchanged(&self, path: &OsStr) -> bool {
-        [self.file.metadata(), fs::metadata(path)]
-            .into_iter()
-            .all(|now| now.is_ok_and(|now| Stamp::of(&now) == self.stamp))
+        self.file.metadata().is_ok_and(|now| Stamp::of(&now) == self.stamp) && self.stamp.is_at(path)
     }
 
     /// Fetches every byte, or says where it cannot.

@@ -1,6 +1,7 @@
 //! By what a file is known again, and by what a change of it is seen.
 
-use std::fs::Metadata;
+use std::ffi::OsStr;
+use std::fs::{self, Metadata};
 use std::os::unix::fs::MetadataExt;
 
 /// Which file it is, its length, and when its content and its entry in the file system were last changed. The
@@ -23,5 +24,10 @@ impl Stamp {
             content: (file.mtime(), file.mtime_nsec()),
             entry: (file.ctime(), file.ctime_nsec()),
         }
+    }
+
+    /// Whether the file that now stands at a path has this stamp.
+    pub fn is_at(&self, path: &OsStr) -> bool {
+        fs::metadata(path).is_ok_and(|now| Stamp::of(&now) == *self)
     }
 }

@@ -30,6 +30,12 @@ impl Tally {
         }
     }
 
+    /// Counts a file that had passed as not read.
+    pub fn withdraw(&mut self) {
+        self.counts[usize::from(PASSED)] -= 1;
+        self.counts[usize::from(FAILED)] += 1;
+    }
+
     /// The same, had this many more files not been read.
     pub fn with_unread(&self, files: u64) -> Self {
         let mut tally = self.clone();
