@@ -2,10 +2,11 @@
 
 mod command;
 
-use command::{shell, store, FAILED, PASSED, ROOTAUDIT, ROOTKEYS};
+use command::{printed, shell, store, FAILED, PASSED, ROOTAUDIT, ROOTKEYS};
 use kirovadzun_host::gen::one_root;
 use std::fs;
 use std::path::Path;
+use std::process::{Command, Stdio};
 
 /// Standard output closed, open for reading only, and full.
 const LOST: [&str; 3] = [">&-", "1</dev/null", ">/dev/full"];
@@ -33,8 +34,12 @@ fn lost_output() {
 fn nobody_reads() {
     let path = store("output_pipe.root", &one_root());
     for program in [ROOTAUDIT, ROOTKEYS] {
-        let (_, _, errors) = shell("{ sleep 0.2; \"$0\" \"$1\"; echo $? >&2; } | true", program, &path);
-        assert!(errors.contains("Broken pipe") && errors.ends_with("\n2\n"), "{errors}");
+        let mut reader = Command::new("true").stdin(Stdio::piped()).spawn().unwrap();
+        let pipe = reader.stdin.take().unwrap();
+        reader.wait().unwrap();
+        let (status, _, errors) = printed(Command::new(program).arg(&path).stdout(pipe).output().unwrap());
+        assert_eq!(status, FAILED);
+        assert!(errors.contains("output: Broken pipe"), "{errors}");
     }
 }
 

@@ -5,6 +5,7 @@
 
 use kirovadzun_host::ffi;
 use kirovadzun_host::rootaudit::mapped::Mapped;
+use kirovadzun_host::rootaudit::options::is_option;
 use kirovadzun_host::rootaudit::pieces::{key_at, Piece, Walk, BEGIN};
 use kirovadzun_host::rootaudit::{escape, fault, output, words};
 use std::env;
@@ -35,7 +36,7 @@ const FAILED: u8 = 2;
 fn main() -> ExitCode {
     let arguments: Vec<OsString> = env::args_os().skip(1).collect();
     ExitCode::from(output::with("rootkeys", |out| {
-        run(&arguments, out).unwrap_or_else(|error| fail(&error.to_string()))
+        run(&arguments, out).unwrap_or_else(|error| fail(&format!("output: {error}")))
     }))
 }
 
@@ -46,11 +47,12 @@ fn fail(message: &str) -> u8 {
 }
 
 fn run(arguments: &[OsString], out: &mut dyn Write) -> io::Result<u8> {
-    let is_option = |argument: &OsString| argument.as_encoded_bytes().starts_with(b"-");
     let files = match arguments {
         [help] if help == "--help" || help == "-h" => return out.write_all(HELP.as_bytes()).map(|()| WALKED),
         [end, files @ ..] if end == "--" => files,
-        files if files.iter().any(is_option) => return Ok(fail(&format!("an option that there is not\n{HELP}"))),
+        files if files.iter().any(|file| is_option(file)) => {
+            return Ok(fail(&format!("an option that there is not\n{HELP}")))
+        }
         files => files,
     };
     if files.is_empty() {
@@ -71,11 +73,10 @@ fn list_file(path: &OsStr, out: &mut dyn Write) -> io::Result<u8> {
         Err(why) => fail(&format!("{name}: could not be read: {why}")),
         Ok(file) => {
             let status = list(&name, file.bytes(), out)?;
-            let changed = || fail(&format!("{name}: it was changed, replaced or removed meanwhile"));
             if file.is_unchanged(path) {
                 status
             } else {
-                changed()
+                fail(&format!("{name}: it was changed, replaced or removed meanwhile"))
             }
         }
     };

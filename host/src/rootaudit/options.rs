@@ -110,7 +110,7 @@ fn checked(options: Options, printing: bool) -> Result<Options, String> {
 }
 
 /// A lone `-` is a file.
-fn is_option(argument: &OsStr) -> bool {
+pub fn is_option(argument: &OsStr) -> bool {
     let bytes = argument.as_encoded_bytes();
     bytes.starts_with(b"-") && bytes.len() > 1
 }
