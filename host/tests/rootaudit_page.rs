@@ -66,7 +66,12 @@ fn a_pass() {
     expect(&page, &["<path fill=\"url(#p0)\" d=\"M815.93 44.00h32.97v60.00h-32.97z\"/>"]);
     expect(
         &page,
-        &["END in the header: 364", "real length: 364", "Totals by part", "a/ at 100: 0 directories, 1 other records"],
+        &[
+            "END in the header: 364",
+            "real length: 364",
+            "Totals by part",
+            "a/ at 100: directories 0, other records 1, bytes 50",
+        ],
     );
     expect(
         &page,

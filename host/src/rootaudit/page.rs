@@ -152,8 +152,8 @@ fn write_box(out: &mut dyn Write, lines: &[&str], name: &str, class: &str) -> io
 }
 
 const PASS_UNSAID: [&str; 3] = [
-    "It is no checksum: the data of objects are not unpacked, looked into or even fetched, so a bad sector or a \
-     wrong byte there goes unseen.",
+    "It is no checksum: the data of objects are not unpacked or looked into, and without --read not even fetched, so \
+     a wrong byte or a bad sector there goes unseen.",
     "A record that no directory lists is no fault.",
     "It speaks of the file as it was when it was read.",
 ];

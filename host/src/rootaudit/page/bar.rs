@@ -1,7 +1,7 @@
 //! The file as a bar to scale: each piece with the colour and pattern of its part, the fault as a flag, what was
 //! not reached in grey, and two ticks, for END of the header and for the real length.
 
-use super::super::pieces::{BEGIN, GAP, KINDS, RECORD};
+use super::super::pieces::{BEGIN, KINDS, RECORD};
 use super::super::words::{end_of, grouped};
 use super::Subject;
 use std::io::{self, Write};
@@ -23,19 +23,20 @@ pub const HEADER: usize = RECORD + 1;
 pub const UNREACHED: usize = RECORD + 2;
 const FILLS: usize = RECORD + 3;
 
-/// The colour of each kind of `KINDS`, of the header and of what was not reached, and the lines over it.
-const PATTERNS: [(&str, &str); FILLS] = [
-    ("#ffffff", "M-2 2 L2 -2 M0 8 L8 0 M6 10 L10 6"),
-    ("#1f3a7a", ""),
-    ("#1c8a8a", "M0 4 H8"),
-    ("#7d4bb0", "M4 0 V8"),
-    ("#e08a1e", "M0 0 L8 8"),
-    ("#8fb8e8", ""),
-    ("#3f9a4a", "M0 4 H8 M4 0 V8"),
-    ("#d9c7a0", "M1 1 H3 M5 5 H7"),
-    ("#c3d3ea", "M0 2 H2 M4 6 H6"),
-    ("#222222", ""),
-    ("#b5b5b5", ""),
+/// The colour of each kind of `KINDS`, of the header and of what was not reached, and the lines over it with their
+/// colour.
+const PATTERNS: [(&str, &str, &str); FILLS] = [
+    ("#ffffff", "#555", "M-2 2 L2 -2 M0 8 L8 0 M6 10 L10 6"),
+    ("#1f3a7a", "#fff9", "M0 2 H8 M0 6 H8"),
+    ("#1c8a8a", "#0008", "M0 4 H8"),
+    ("#7d4bb0", "#0008", "M4 0 V8"),
+    ("#e08a1e", "#0008", "M0 0 L8 8"),
+    ("#8fb8e8", "#0004", "M3 4 H5"),
+    ("#3f9a4a", "#0008", "M0 4 H8 M4 0 V8"),
+    ("#d9c7a0", "#0008", "M1 1 H3 M5 5 H7"),
+    ("#c3d3ea", "#0008", "M0 2 H2 M4 6 H6"),
+    ("#222222", "#222", ""),
+    ("#b5b5b5", "#b5b5b5", ""),
 ];
 
 /// A stretch of bytes, and how it is drawn.
@@ -117,8 +118,7 @@ pub fn write(out: &mut dyn Write, subject: &Subject) -> io::Result<()> {
 
 fn write_patterns(out: &mut dyn Write) -> io::Result<()> {
     writeln!(out, "<defs>")?;
-    for (kind, (colour, lines)) in PATTERNS.iter().enumerate() {
-        let stroke = if kind == GAP { "#555" } else { "#0008" };
+    for (kind, (colour, stroke, lines)) in PATTERNS.iter().enumerate() {
         writeln!(
             out,
             "<pattern id=\"p{kind}\" width=\"8\" height=\"8\" patternUnits=\"userSpaceOnUse\"><rect width=\"8\" \

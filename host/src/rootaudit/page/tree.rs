@@ -46,7 +46,7 @@ fn write_dir(out: &mut dyn Write, dir: &Dir, depth: usize, file: &[u8]) -> io::R
     let name = key_at(file, dir.start).map_or(String::new(), |key| name_of(key.name));
     writeln!(
         out,
-        "<li class=\"m\" style=\"padding-left:{}em\">{name}/ at {}: {} directories, {} other records of {} bytes</li>",
+        "<li class=\"m\" style=\"padding-left:{}em\">{name}/ at {}: directories {}, other records {}, bytes {}</li>",
         2 * depth.min(DEEPEST),
         grouped(dir.start),
         grouped(dir.dirs),
