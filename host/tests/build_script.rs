@@ -25,7 +25,14 @@ impl Place {
         fs::set_permissions(&rt, fs::Permissions::from_mode(0o755)).unwrap();
         let source = Path::new(env!("CARGO_MANIFEST_DIR")).join("build.rs");
         let script = place.0.join("script");
-        assert!(Command::new("rustc").args(["--edition", "2021"]).arg(source).arg("-o").arg(script).status().unwrap().success());
+        assert!(Command::new("rustc")
+            .args(["--edition", "2021"])
+            .arg(source)
+            .arg("-o")
+            .arg(script)
+            .status()
+            .unwrap()
+            .success());
         place
     }
 
@@ -57,6 +64,9 @@ impl Place {
 
 #[test]
 fn commit_and_toolchain() {
+    if !command::is_there("git") {
+        return;
+    }
     let place = Place::new("build_script");
     let all = format!("{}:{}", place.0.join("bin").display(), std::env::var("PATH").unwrap());
     // No git and no toolchain; then no checkout.

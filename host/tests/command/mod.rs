@@ -57,3 +57,12 @@ pub fn shell(line: &str, program: &str, file: &Path) -> Printed {
 pub fn line(path: &Path, words: &str) -> String {
     format!("{}: {words}\n", path.display())
 }
+
+/// Whether a program that a test needs is there; a word about it if not.
+pub fn is_there(program: &str) -> bool {
+    let found = Command::new(program).arg("--version").output().is_ok();
+    if !found {
+        println!("skipped: {program} is not there");
+    }
+    found
+}
