@@ -72,7 +72,6 @@ pub fn run(arguments: impl IntoIterator<Item = OsString>, audit: Audit, console:
     done.unwrap_or_else(|error| fail(console.errors, &format!("output: {error}")))
 }
 
-/// Whatever comes next, this text is out.
 fn print(out: &mut dyn Write, text: &[u8]) -> io::Result<()> {
     out.write_all(text)?;
     out.flush()
@@ -90,10 +89,12 @@ fn audit_all(options: &Options, audit: Audit, console: &mut Console) -> io::Resu
     let mut passed = Vec::new();
     for (nth, path) in options.files.iter().enumerate() {
         let left = (options.files.len() - nth) as u64;
-        let _text = fault::expect(if_stopped(path, options, &tally.with_unread(left)));
+        let _text = fault::expect(if_stopped(path, options, &tally.with_unread(left))?);
         let finding = watched(path, options, audit, console);
         if !(options.quiet && finding.has_passed()) {
-            print(console.out, &finding.text(path, options.json))?;
+            finding.write(console.out, path, options.json)?;
+            // Whatever becomes of the next file, this line is out.
+            console.out.flush()?;
         }
         if let Some(page) = &mut page {
             write_page(page, &finding)?;
@@ -103,7 +104,7 @@ fn audit_all(options: &Options, audit: Audit, console: &mut Console) -> io::Resu
     }
     // The first may have changed while the others were audited.
     for (path, _) in passed.iter().filter(|(path, stamp)| !stamp.is_at(path)) {
-        print(console.out, &Finding::failed(path, options, LATE.into()).text(path, options.json))?;
+        Finding::failed(path, options, LATE.into()).write(console.out, path, options.json)?;
         tally.withdraw();
     }
     print(console.out, &last_line(options, &tally))?;
@@ -128,9 +129,11 @@ fn watched(path: &OsStr, options: &Options, audit: Audit, console: &mut Console)
 }
 
 /// What is said if the command is stopped at a file: `tally` has it and all after it as not read.
-fn if_stopped(path: &OsStr, options: &Options, tally: &Tally) -> Vec<u8> {
-    let finding = Finding::failed(path, options, fault::WORDS.into());
-    [finding.text(path, options.json), last_line(options, tally)].concat()
+fn if_stopped(path: &OsStr, options: &Options, tally: &Tally) -> io::Result<Vec<u8>> {
+    let mut text = Vec::new();
+    Finding::failed(path, options, fault::WORDS.into()).write(&mut text, path, options.json)?;
+    text.extend(last_line(options, tally));
+    Ok(text)
 }
 
 /// A line at the end, where it says more than the one before it.

@@ -76,7 +76,9 @@ fn fault(path: OsString) -> ! {
         OpenOptions::new().write(true).open(&path).unwrap().set_len(0).unwrap();
         Answer::success(1 + u64::from(bytes[bytes.len() - 1]))
     };
-    let good = file("fault_good.root", &one_root());
+    // Each process has its own.
+    let good = Path::new(&path).with_extension("good");
+    fs::write(&good, one_root()).unwrap();
     let mut console = Console { out: &mut io::stdout(), errors: &mut io::stderr(), terminal: None };
     let status = run([good.clone().into(), path.clone(), good.clone().into(), good.into()], &cut, &mut console);
     panic!("status {status}");

@@ -8,7 +8,7 @@ use super::stamp::Stamp;
 use super::verdict::{self, Verdict};
 use super::{json, page, words, Audit, PASSED};
 use std::ffi::OsStr;
-use std::io;
+use std::io::{self, Write};
 
 pub struct Finding {
     pub verdict: Verdict,
@@ -71,11 +71,15 @@ impl Finding {
     }
 
     /// Its line and its rows.
-    pub fn text(&self, path: &OsStr, json: bool) -> Vec<u8> {
-        if json {
+    pub fn write(&self, out: &mut dyn Write, path: &OsStr, json: bool) -> io::Result<()> {
+        let (begin, end) = if json {
             let bytes = self.stamp.map(|stamp| stamp.len);
-            return json::object(path, &self.verdict, bytes, &self.words, &self.rows);
-        }
-        [words::line(&words::name(path), &self.words).as_bytes(), &self.rows].concat()
+            (json::object(path, &self.verdict, bytes, &self.words), "}\n")
+        } else {
+            (words::line(&words::name(path), &self.words), "")
+        };
+        out.write_all(begin.as_bytes())?;
+        out.write_all(&self.rows)?;
+        out.write_all(end.as_bytes())
     }
 }

@@ -27,8 +27,8 @@ pub fn number(value: Option<u64>) -> String {
     value.map_or("null".into(), |value| value.to_string())
 }
 
-/// The object of a file. `rows` is what `write_rows` wrote, or nothing.
-pub fn object(path: &OsStr, verdict: &Verdict, bytes: Option<u64>, words: &str, rows: &[u8]) -> Vec<u8> {
+/// The object of a file, but for its end: rows may follow.
+pub fn object(path: &OsStr, verdict: &Verdict, bytes: Option<u64>, words: &str) -> String {
     let (verdict, answer) = match verdict {
         Verdict::Passed(tables) => ("passed", Some(Answer::success(tables.start.len() as u64))),
         Verdict::Refused(answer) => ("refused", Some(*answer)),
@@ -37,13 +37,12 @@ pub fn object(path: &OsStr, verdict: &Verdict, bytes: Option<u64>, words: &str, 
     let name = string(&escape::ascii(path.as_encoded_bytes()));
     let [code, place, count] =
         [|a: Answer| a.number, |a: Answer| a.place, |a: Answer| a.count].map(|field| number(answer.map(field)));
-    let fields = format!(
+    format!(
         "{{\"name\":{name},\"verdict\":\"{verdict}\",\"number\":{code},\"place\":{place},\"count\":{count},\
          \"bytes\":{},\"words\":{}",
         number(bytes),
         string(words)
-    );
-    [fields.as_bytes(), rows, b"}\n"].concat()
+    )
 }
 
 /// The rows of a pass as a further field; of a broken chain the pieces before the break, in a field that says
