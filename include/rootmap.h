@@ -1,47 +1,68 @@
 /*
  * rootmap: the C interface of the proved reader of ROOT files.
  *
- * Link target/staticlib/libcapi.a, which `rt staticlib capi` writes.
+ * Link librootmap.a, which `host/install PREFIX` puts in place, or target/staticlib/libcapi.a, which
+ * `rt staticlib capi` writes: they are the same. For x86-64 Linux.
  *
- * Every function that answers returns a number, 0 for success, and writes *place and *count in
- * every case:
+ * Every function that answers returns a number, ROOTMAP_PASSED for success, and writes *place and
+ * *count in every case. The numbers are named below. Only ROOTMAP_PASSED is a pass: whatever else
+ * rootmap_audit returns, ROOTMAP_UNFINISHED too, says nothing good of the file.
  *
- *    0  success
- *    1  the file is shorter than its header, 100 bytes
- *    2  it does not begin with "root"
- *    3  its offsets are not four bytes wide: Version is 1,000,000 or more, or Units is not 4
- *    4  BEGIN is not 100, or END is not the file's length or above 1,999,999,999
- *    5  no piece of that size stands at the place
- *    6  a record's key header is not well formed, or its SeekKey is not its place
- *    7  unfinished: there are more pieces than rows
- *    8  the head is bad
- *    9  the free list is bad, or is not the gaps
- *   10  the info record is not where the header says, or is none
- *   11  a directory's header is bad
- *   12  a directory's keys list is bad
- *   13  a copy in a keys list is not that of a record of the directory
- *   14  a record that a directory has as its list, or lists, has a part already
- *   15  a string is longer than 254 bytes
- *   16  the key header would not be well formed, or a value does not fit its field
- *   17  SeekKey + Nbytes lies beyond the buffer
- *   18  a date field is not in its range
- *   19  the info record is packed
- *   20  the piece is no info record
- *   21  a count, a length or an end in the info record is bad
- *   22  a class tag in the info record is unknown, repeated or misplaced
- *   23  an object in the info record is referenced
- *   24  there are more elements than rows
+ * A pass is no checksum: the data of objects are not looked into.
  *
- * What the caller owes: no pointer is null, not even one of length 0; each points to as many
- * items as is said, aligned for their type; memory that a function writes overlaps nothing else
- * that the call is given; and nobody else writes to any of it during the call. Nothing is kept
- * after a call, and nothing is allocated.
+ * What the caller owes: no pointer is null, not even one of length 0, so lend the address of any
+ * object of the type where there is nothing to lend; each points to as many items as is said,
+ * aligned for their type; memory that a function writes overlaps nothing else that the call is
+ * given; and nobody else writes to any of it during the call. Nothing is kept after a call, nothing
+ * is allocated, and there is no shared state: any number of threads may call at once, each with
+ * memory of its own to be written.
  */
 #ifndef ROOTMAP_H
 #define ROOTMAP_H
 
 #include <stddef.h>
 #include <stdint.h>
+
+/* The numbers that the functions return. */
+#define ROOTMAP_PASSED 0      /* success */
+#define ROOTMAP_SHORT 1       /* the file is shorter than its header, 100 bytes */
+#define ROOTMAP_MAGIC 2       /* it does not begin with "root" */
+#define ROOTMAP_WIDE 3        /* its offsets are not four bytes wide: Version is 1,000,000 or more, or Units is not 4 */
+#define ROOTMAP_BOUNDS 4      /* BEGIN is not 100, or END is not the file's length or above 1,999,999,999 */
+#define ROOTMAP_CHAIN 5       /* no piece of that size stands at the place */
+#define ROOTMAP_KEY 6         /* a record's key header is not well formed, or its SeekKey is not its place */
+#define ROOTMAP_UNFINISHED 7  /* there are more pieces than rows: no pass; lend count rows and call again */
+#define ROOTMAP_HEAD 8        /* the head is bad */
+#define ROOTMAP_FREE 9        /* the free list is bad, or is not the gaps */
+#define ROOTMAP_INFO 10       /* the info record is not where the header says, or is none */
+#define ROOTMAP_DIRECTORY 11  /* a directory's header is bad */
+#define ROOTMAP_KEYS 12       /* a directory's keys list is bad */
+#define ROOTMAP_ENTRY 13      /* a copy in a keys list is not that of a record of the directory */
+#define ROOTMAP_TWICE 14      /* a record that a directory has as its list, or lists, has a part already */
+#define ROOTMAP_NAME 15       /* a string is longer than 254 bytes */
+#define ROOTMAP_FIELD 16      /* the key header would not be well formed, or a value does not fit its field */
+#define ROOTMAP_ROOM 17       /* SeekKey + Nbytes lies beyond the buffer */
+#define ROOTMAP_DATE 18       /* a date field is not in its range */
+#define ROOTMAP_PACKED 19     /* the info record is packed */
+#define ROOTMAP_NOT_INFO 20   /* the piece is no info record */
+#define ROOTMAP_COUNT 21      /* a count, a length or an end in the info record is bad */
+#define ROOTMAP_TAG 22        /* a class tag in the info record is unknown, repeated or misplaced */
+#define ROOTMAP_REFERENCED 23 /* an object in the info record is referenced */
+#define ROOTMAP_ROWS 24       /* there are more elements than rows */
+
+/* The parts that rootmap_audit gives to the pieces of a file. */
+#define ROOTMAP_PART_GAP 0
+#define ROOTMAP_PART_HEAD 1     /* the record of the file itself, at 100 */
+#define ROOTMAP_PART_FREE 2     /* the list of free space */
+#define ROOTMAP_PART_INFO 3     /* the StreamerInfo record */
+#define ROOTMAP_PART_KEYS 4     /* the list of what a directory holds */
+#define ROOTMAP_PART_LISTED 5   /* a record that a directory lists */
+#define ROOTMAP_PART_DIR 6      /* the same, a directory */
+#define ROOTMAP_PART_UNLISTED 7 /* a record that no directory lists: no fault */
+
+/* What rootmap_read_piece gives as the kind of a piece. */
+#define ROOTMAP_KIND_RECORD 1
+#define ROOTMAP_KIND_GAP 2
 
 #ifdef __cplusplus
 extern "C" {
@@ -97,9 +118,9 @@ uint64_t rootmap_write_key(uint32_t nbytes, uint32_t version, uint32_t objlen, u
  * Audits a whole file into three tables. There is room for as many rows as the shortest has.
  *
  * Passed: 0, place 0, count the pieces of the file. Row i, entry i of each table, describes piece i
- * in file order: its start; its part, 0 gap, 1 head, 2 free list, 3 info, 4 keys list, 5 listed,
- * 6 directory, 7 unlisted; its owner, the place of the directory that has the list (4) or lists the
- * record (5, 6), else 0. Later entries are 0, to each table's own end.
+ * in file order: its start; its part, ROOTMAP_PART_GAP to ROOTMAP_PART_UNLISTED; its owner, the
+ * place of the directory that has the list (4) or lists the record (5, 6), else 0. Later entries are
+ * 0, to each table's own end.
  *
  * Refused: 1 to 14, and every entry of every table is 0. The first that applies is given, and all
  * room but too little (7) gives the same. Count is 0, but for 7 the pieces of the file. Place is

@@ -1,40 +1,33 @@
 //! The command rootaudit: what it prints, and its exit status.
 
+mod command;
+
+use command::{line, rootaudit, store, FAILED, PASSED, REFUSED};
 use kirovadzun_host::gen::files::plan_of;
-use kirovadzun_host::gen::{nested, one_root, Rng, ONE_ROOT_LIST};
+use kirovadzun_host::gen::{nested, one_root, Rng};
 use kirovadzun_host::model::audit::{self, part};
+use kirovadzun_host::model::key;
+use kirovadzun_host::rootaudit::escape;
 use kirovadzun_host::rootaudit::verdict::first_room;
+use kirovadzun_host::rootaudit::words::{AGAIN, KEEP, LOOK, WAIT};
 use std::ffi::OsStr;
-use std::fs;
-use std::path::{Path, PathBuf};
-use std::process::Command;
+use std::path::Path;
 
-const PASSED: i32 = 0;
-const REFUSED: i32 = 1;
-const FAILED: i32 = 2;
+/// What document 01 has for one.root, with the keys of its records.
+const ONE_ROOT: &str = "\
+passed 5
+100 68 head 0\tTFile\ta;1
+168 50 listed 100\tTObjString\tx;1
+218 79 keys 100\tTFile\ta;1
+297 12 gap 0
+309 55 free 0\tTFile\ta;1
+";
 
-fn store(name: &str, bytes: &[u8]) -> PathBuf {
-    let path = Path::new(env!("CARGO_TARGET_TMPDIR")).join(name);
-    fs::write(&path, bytes).unwrap();
-    path
-}
-
-/// The exit status, and what was printed to standard output and to standard error.
-fn rootaudit<A: AsRef<OsStr>>(arguments: &[A]) -> (i32, String, String) {
-    let output = Command::new(env!("CARGO_BIN_EXE_rootaudit")).args(arguments).output().unwrap();
-    let [out, errors] = [output.stdout, output.stderr].map(|text| String::from_utf8(text).unwrap());
-    (output.status.code().unwrap(), out, errors)
-}
-
-/// The same for files alone: nothing is printed to standard error.
+/// For files alone: nothing is printed to standard error.
 fn audited(paths: &[&Path]) -> (i32, String) {
     let (status, out, errors) = rootaudit(paths);
     assert_eq!(errors, "");
     (status, out)
-}
-
-fn line(path: &Path, words: &str) -> String {
-    format!("{}: {words}\n", path.display())
 }
 
 #[test]
@@ -47,7 +40,7 @@ fn passes() {
 fn prints_rows() {
     let path = store("audit_rows.root", &one_root());
     let (status, out, errors) = rootaudit(&[OsStr::new("--rows"), path.as_os_str()]);
-    assert_eq!((status, out, errors), (PASSED, format!("{}: {ONE_ROOT_LIST}", path.display()), String::new()));
+    assert_eq!((status, out, errors), (PASSED, format!("{}: {ONE_ROOT}", path.display()), String::new()));
 }
 
 /// What is done to one.root.
@@ -56,52 +49,94 @@ enum Change {
     Byte(usize, u8),
 }
 
-/// Changes of one.root, and what is printed of each.
-const REFUSALS: [(Change, &str); 12] = [
-    (Change::Cut(0), "refused 1 at 0: shorter than the header of a ROOT file, 100 bytes"),
-    (Change::Cut(99), "refused 1 at 0: shorter than the header of a ROOT file, 100 bytes"),
-    (Change::Byte(0, b'R'), "refused 2 at 0: no ROOT file: it does not begin with \"root\""),
+/// Changes of one.root, what is printed of each, what is then to be done, and how many pieces stand before the
+/// break.
+const REFUSALS: [(Change, &str, &str, usize); 15] = [
+    (Change::Cut(0), "refused 1 at 0: shorter than the header of a ROOT file, 100 bytes", AGAIN, 0),
+    (Change::Cut(99), "refused 1 at 0: shorter than the header of a ROOT file, 100 bytes", AGAIN, 0),
+    (Change::Byte(0, b'R'), "refused 2 at 0: no ROOT file: it does not begin with \"root\"", LOOK, 0),
     (
         Change::Byte(32, 8),
-        "refused 3 at 0: its header is of the large kind, with eight-byte offsets, which is not read, or damaged",
+        "refused 3 at 0: its header is of the large kind, with eight-byte offsets, or damaged",
+        KEEP,
+        0,
     ),
+    (Change::Cut(300), "refused 4 at 0: its header says 364 bytes, it has 300", WAIT, 0),
+    (Change::Byte(13, 1), "refused 4 at 0: its header says 65,900 bytes, it has 364", WAIT, 0),
     (
-        Change::Cut(300),
-        "refused 4 at 0: its header gives other bounds than it has: cut short, still growing, added to, or too large",
+        Change::Byte(10, 1),
+        "refused 4 at 0: its header says that its records begin at byte 356, and not at 100",
+        WAIT,
+        0,
     ),
-    (Change::Byte(297, 0), "refused 5 at 297: no record and no gap of a possible size stands here"),
+    (Change::Byte(297, 0), "refused 5 at 297: no record and no gap of a possible size stands here", AGAIN, 3),
     (
         Change::Byte(330, 0),
-        "refused 6 at 309: the record here has a damaged key, or one with eight-byte offsets, which is not read",
+        "refused 6 at 309: the record here has a damaged key, or says that it stands elsewhere",
+        AGAIN,
+        4,
     ),
-    (Change::Byte(127, b'X'), "refused 8 at 100: the record of the file itself, which stands here, is damaged"),
+    (
+        Change::Byte(313, 4),
+        "refused 6 at 309: the record here has a key of version 1028, with eight-byte offsets, or a damaged one",
+        KEEP,
+        4,
+    ),
+    (
+        Change::Byte(127, b'X'),
+        "refused 8 at 100: the record of the file itself, which stands here, is damaged",
+        AGAIN,
+        0,
+    ),
     (
         Change::Byte(353, 52),
         "refused 9 at 309: the list of free space, which should stand here, is damaged or is not that of the gaps",
+        AGAIN,
+        0,
     ),
-    (Change::Byte(40, 7), "refused 10 at 7: the StreamerInfo record, which should stand here, is damaged or missing"),
+    (
+        Change::Byte(40, 7),
+        "refused 10 at 7: the StreamerInfo record, which should stand here, is damaged or missing",
+        AGAIN,
+        0,
+    ),
     (
         Change::Byte(245, b'X'),
         "refused 12 at 218: the list of a directory's keys, which should stand here, is damaged or missing",
+        AGAIN,
+        0,
     ),
     (
         Change::Byte(267, 0),
         "refused 13 at 257: the entry here in a list of keys is not that of a record of its directory",
+        AGAIN,
+        0,
     ),
 ];
 
-/// No rows of a file that is refused.
+/// The pieces of one.root before a break: they are marked as no verdict.
+const BEFORE: &str = "\
+no verdict: 100 68 record\tTFile\ta;1
+no verdict: 168 50 record\tTObjString\tx;1
+no verdict: 218 79 record\tTFile\ta;1
+no verdict: 297 12 gap
+";
+
+/// No rows of a file that is refused, but the pieces before a break.
 #[test]
 fn refuses() {
-    for (nth, (change, words)) in REFUSALS.iter().enumerate() {
+    for (nth, (change, words, next, pieces)) in REFUSALS.iter().enumerate() {
         let mut file = one_root();
         match *change {
             Change::Cut(len) => file.truncate(len),
             Change::Byte(at, value) => file[at] = value,
         }
         let path = store(&format!("audit_refused_{nth}.root"), &file);
+        let words = line(&path, &format!("{words}; now: {next}"));
+        assert_eq!(rootaudit(&[&path]), (REFUSED, words.clone(), String::new()));
+        let before: String = BEFORE.split_inclusive('\n').take(*pieces).collect();
         let (status, out, errors) = rootaudit(&[OsStr::new("--rows"), path.as_os_str()]);
-        assert_eq!((status, out, errors), (REFUSED, line(&path, words), String::new()));
+        assert_eq!((status, out, errors), (REFUSED, words + &before, String::new()));
     }
 }
 
@@ -117,24 +152,30 @@ fn cannot_read() {
     assert_eq!(audited(&[device]), (FAILED, line(device, "could not be read: it is no regular file")));
 }
 
-/// A line a file, in the order of the command line. Status 2 goes before 1, and 1 before 0.
+/// A line a file, in the order of the command line, and a last line. Status 2 goes before 1, and 1 before 0.
 #[test]
 fn several_files() {
-    let good = store("audit_good.root", &one_root());
+    let [good, other] = ["audit_good.root", "audit_other.root"].map(|name| store(name, &one_root()));
     let empty = store("audit_empty.root", &[]);
     let missing = Path::new("no such file");
-    let (passed, refused) =
-        (line(&good, "passed 5"), "refused 1 at 0: shorter than the header of a ROOT file, 100 bytes");
-    let refused = line(&empty, refused);
-    assert_eq!(audited(&[&good, &good]), (PASSED, [passed.as_str(); 2].concat()));
-    assert_eq!(audited(&[&empty, &good]), (REFUSED, format!("{refused}{passed}")));
-    assert_eq!(audited(&[&good, &empty]), (REFUSED, format!("{passed}{refused}")));
+    let passed = |path| line(path, "passed 5");
+    let refused = format!("refused 1 at 0: shorter than the header of a ROOT file, 100 bytes; now: {AGAIN}");
+    let refused = line(&empty, &refused);
+    let last = "2 files: 2 passed, 0 refused, 0 not read: all passed\n";
+    assert_eq!(audited(&[&good, &other]), (PASSED, passed(&good) + &passed(&other) + last));
+    let last = "2 files: 2 passed, 0 refused, 0 not read; 1 named more than once: all passed\n";
+    assert_eq!(audited(&[&good, &good]), (PASSED, passed(&good) + &passed(&good) + last));
+    let last = "2 files: 1 passed, 1 refused, 0 not read: do not clear the disk\n";
+    assert_eq!(audited(&[&empty, &good]), (REFUSED, refused.clone() + &passed(&good) + last));
+    assert_eq!(audited(&[&good, &empty]), (REFUSED, passed(&good) + &refused + last));
     for files in [[missing, &empty, &good], [&empty, missing, &good], [&good, &empty, missing]] {
         let (status, out) = audited(&files);
-        assert_eq!((status, out.lines().count()), (FAILED, 3));
+        assert_eq!((status, out.lines().count()), (FAILED, 4));
         for (file, line) in files.iter().zip(out.lines()) {
             assert!(line.starts_with(&format!("{}: ", file.display())), "{line}");
         }
+        let last = "\n3 files: 1 passed, 1 refused, 1 not read: do not clear the disk\n";
+        assert!(out.ends_with(last), "{out}");
     }
 }
 
@@ -153,49 +194,24 @@ fn sizes_its_tables() {
     }
 }
 
-/// What the second program finds, as `rootmap` prints it.
+/// What the second program finds, as `rootmap` prints it, with the keys of records.
 fn printed(file: &[u8], pieces: usize) -> String {
     let (answer, rows) = audit::audit(file, pieces);
     assert_eq!((answer.number, rows.len()), (0, pieces));
     let ends = rows.iter().skip(1).map(|row| row.start).chain([file.len() as u32]);
     let lines = rows.iter().zip(ends).map(|(row, end)| {
-        format!("{} {} {} {}\n", row.start, end - row.start, part::NAMES[row.part as usize], row.owner)
+        let part = part::NAMES[row.part as usize];
+        format!("{} {} {part} {}{}\n", row.start, end - row.start, row.owner, key_of(file, row))
     });
     format!("passed {pieces}\n{}", lines.collect::<String>())
 }
 
-#[test]
-fn command_line() {
-    let path = store("audit_line.root", &one_root());
-    let [rows, end] = ["--rows", "--"].map(OsStr::new);
-    // A file after `--`, though its name looks like an option.
-    let (status, out, errors) = rootaudit(&[end, OsStr::new("--rows"), path.as_os_str()]);
-    assert_eq!((status, errors.as_str(), out.lines().count()), (FAILED, "", 2));
-    assert!(out.starts_with("--rows: could not be read: ") && out.ends_with(&line(&path, "passed 5")), "{out}");
-    // An option may come after a file.
-    assert_eq!(rootaudit(&[path.as_os_str(), rows]).1, format!("{}: {ONE_ROOT_LIST}", path.display()));
-    for wrong in [vec![], vec!["--row"], vec!["-x", "a"], vec!["--rows"], vec!["a", "--rows=1"], vec!["--"]] {
-        let (status, out, errors) = rootaudit(&wrong);
-        assert_eq!((status, out.as_str()), (FAILED, ""), "{wrong:?}");
-        assert!(errors.contains("usage: rootaudit"), "{wrong:?}: {errors}");
+/// Class, name and cycle of a record.
+fn key_of(file: &[u8], row: &audit::Row) -> String {
+    if row.part == part::GAP {
+        return String::new();
     }
-}
-
-#[test]
-fn help_and_version() {
-    let (status, out, errors) = rootaudit(&["--help"]);
-    assert_eq!((status, errors.as_str()), (PASSED, ""));
-    assert!(out.contains("Only `passed` is a pass") && out.contains("do not clear the disk"));
-    let version = format!("rootaudit {}\n", env!("CARGO_PKG_VERSION"));
-    assert_eq!(rootaudit(&["--version"]), (PASSED, version, String::new()));
-}
-
-/// A name cannot fake a line.
-#[test]
-fn names_are_escaped() {
-    let name = "audit_\n: passed 9\n\u{1b}[31m.root";
-    let path = store(name, &[]);
-    let (status, out) = audited(&[&path]);
-    assert_eq!((status, out.lines().count()), (REFUSED, 1));
-    assert!(out.contains("audit_\\n: passed 9\\n\\u{1b}[31m.root: refused 1"), "{out}");
+    let key = key::read_key(file, row.start as usize).unwrap();
+    let [class, name] = [key.class, key.name].map(|range| escape::text(&file[range]));
+    format!("\t{class}\t{name};{}", key.cycle)
 }

@@ -1,23 +1,21 @@
 //! The command rootaudit over audits that are not the library's: an audit that is not finished is never
 //! a pass, nor is an answer that the interface does not have, nor a file that changes meanwhile.
 
+mod command;
+
+use command::store;
 use kirovadzun_host::gen::one_root;
 use kirovadzun_host::model::Answer;
 use kirovadzun_host::rootaudit::verdict::{examine, first_room, Verdict};
-use kirovadzun_host::rootaudit::{progress, run, words, Audit, Console, FAILED};
+use kirovadzun_host::rootaudit::{progress, run, words, Audit, Console, FAILED, PASSED};
 use std::cell::RefCell;
 use std::ffi::OsString;
 use std::fs::{self, OpenOptions};
 use std::io::{self, Write};
-use std::path::{Path, PathBuf};
+use std::os::unix::fs::symlink;
+use std::path::Path;
 use std::thread;
 use std::time::Duration;
-
-fn store(name: &str, bytes: &[u8]) -> PathBuf {
-    let path = Path::new(env!("CARGO_TARGET_TMPDIR")).join(name);
-    fs::write(&path, bytes).unwrap();
-    path
-}
 
 /// The command with another audit: its exit status and what it prints.
 fn rootaudit(path: &Path, audit: Audit) -> (u8, String) {
@@ -100,16 +98,20 @@ fn a_second_audit() {
 #[test]
 fn every_refusal_has_words() {
     let file = one_root();
-    let mut said: Vec<&str> = Vec::new();
+    let mut said: Vec<String> = Vec::new();
     for number in (1..=14).filter(|&number| number != 7) {
         let answer = Answer::refusal(number, 309);
         assert_eq!(examine(&file, &|_, _| answer), Verdict::Refused(answer));
-        said.push(words::refusal(number));
+        said.push(words::refusal(&answer, &file).0);
     }
-    said.push(words::refusal(15));
+    said.push(words::refusal(&Answer::refusal(15, 0), &file).0);
     said.sort();
     said.dedup();
     assert_eq!(said.len(), 14, "two refusals have the same words");
+    // The place of a refusal may lie anywhere.
+    for place in [0, 1 << 40, u64::MAX] {
+        assert!(!words::refusal(&Answer::refusal(6, place), &file).0.is_empty());
+    }
 }
 
 #[test]
@@ -119,22 +121,86 @@ fn rooms_to_begin_with() {
     }
 }
 
-/// A file that is written to while it is audited.
+/// What is done to a file while it is audited. Its date is set back where there is one.
+fn expect_seen(name: &str, meddle: impl Fn(&Path)) {
+    let path = store(name, &one_root());
+    let date = fs::metadata(&path).unwrap().modified().unwrap();
+    let audit = |_: &[u8], _: [&mut [u32]; 3]| {
+        // The clock of a file system may stand still for so long.
+        thread::sleep(Duration::from_millis(30));
+        meddle(&path);
+        if let Ok(file) = OpenOptions::new().write(true).open(&path) {
+            file.set_modified(date).unwrap();
+        }
+        Answer::success(5)
+    };
+    expect_failure(&path, &audit);
+}
+
 #[test]
 fn a_change_is_seen() {
-    let path = store("fake_changed.root", &one_root());
-    let grow = |_: &[u8], _: [&mut [u32]; 3]| {
-        OpenOptions::new().append(true).open(&path).unwrap().write_all(b"more").unwrap();
+    expect_seen("fake_grown.root", |path| {
+        OpenOptions::new().append(true).open(path).unwrap().write_all(b"more").unwrap();
+    });
+    expect_seen("fake_written.root", |path| {
+        OpenOptions::new().write(true).open(path).unwrap().write_all(b"root").unwrap();
+    });
+    expect_seen("fake_removed.root", |path| fs::remove_file(path).unwrap());
+    expect_seen("fake_moved.root", |path| fs::rename(path, path.with_extension("old")).unwrap());
+}
+
+/// Another file stands at the path, of the same length and date, though the open one is as it was.
+#[test]
+fn a_replacement_is_seen() {
+    expect_seen("fake_replaced.root", |path| {
+        let other = store("fake_other.root", &one_root());
+        fs::rename(other, path).unwrap();
+    });
+    let folder = command::folder("fake_links");
+    let [target, other] = ["target", "other"].map(|name| folder.join(name));
+    for file in [&target, &other] {
+        fs::write(file, one_root()).unwrap();
+    }
+    let link = folder.join("link.root");
+    symlink(&target, &link).unwrap();
+    let audit = |_: &[u8], _: [&mut [u32]; 3]| {
+        fs::remove_file(&link).unwrap();
+        symlink(&other, &link).unwrap();
         Answer::success(5)
     };
-    expect_failure(&path, &grow);
-    let path = store("fake_touched.root", &one_root());
-    let touch = |_: &[u8], _: [&mut [u32]; 3]| {
-        thread::sleep(Duration::from_millis(30));
-        fs::write(&path, one_root()).unwrap();
-        Answer::success(5)
+    expect_failure(&link, &audit);
+}
+
+/// A file that passed and is changed while another is audited: its pass is taken back.
+#[test]
+fn a_late_change_is_seen() {
+    let first = store("fake_first.root", &one_root());
+    let second = store("fake_second.root", &[0; 50]);
+    let audit = |bytes: &[u8], _: [&mut [u32]; 3]| {
+        if bytes.len() == 50 {
+            thread::sleep(Duration::from_millis(30));
+            fs::write(&first, one_root()).unwrap();
+        }
+        Answer::success(1)
     };
-    expect_failure(&path, &touch);
+    let (mut out, mut errors) = (Vec::new(), Vec::new());
+    let mut console = Console { out: &mut out, errors: &mut errors, terminal: None };
+    assert_eq!(run([first.clone().into(), second.into()], &audit, &mut console), FAILED);
+    let out = String::from_utf8(out).unwrap();
+    let last = "2 files: 1 passed, 0 refused, 1 not read: do not clear the disk\n";
+    let late = "no pass any more: it was changed, replaced or removed after it was audited";
+    assert!(out.ends_with(&(command::line(&first, late) + last)), "{out}");
+}
+
+/// A file that nobody touches is not said to have changed: reading it is no change.
+#[test]
+fn no_change_is_seen() {
+    let path = store("fake_untouched.root", &one_root());
+    let audit = |_: &[u8], _: [&mut [u32]; 3]| {
+        assert_eq!(fs::read(&path).unwrap(), one_root());
+        Answer::success(1)
+    };
+    assert_eq!(rootaudit(&path, &audit).0, PASSED);
 }
 
 /// What cannot be printed is no success.

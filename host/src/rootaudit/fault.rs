@@ -17,26 +17,27 @@ mod c {
 
 /// The signal, on Linux.
 const SIGBUS: c_int = 7;
-const STANDARD_OUTPUT: c_int = 1;
+/// Standard output may be full, or kept in a file that nobody looks at: standard error has it too.
+const OUTPUTS: [c_int; 2] = [1, 2];
 
 /// What is said of the file.
 pub const WORDS: &str =
     "could not be read: it was cut short while it was audited, or its disk failed; files after it were not audited";
 
-/// The line for the file that is being audited, for the handler alone.
-static LINE: AtomicPtr<u8> = AtomicPtr::new(ptr::null_mut());
+/// What the handler writes, for the handler alone.
+static TEXT: AtomicPtr<u8> = AtomicPtr::new(ptr::null_mut());
 static LEN: AtomicUsize = AtomicUsize::new(0);
 
-/// A line that is written if the signal comes while this value lives.
-pub struct Expected(#[allow(dead_code)] String);
+/// A text that is written if the signal comes while this value lives.
+pub struct Expected(#[allow(dead_code)] Vec<u8>);
 
 /// Prepares for the signal.
-pub fn expect(line: String) -> Expected {
-    LINE.store(line.as_ptr().cast_mut(), Ordering::SeqCst);
-    LEN.store(line.len(), Ordering::SeqCst);
-    // SAFETY: the handler reads two atomics and makes two calls that a handler may make.
+pub fn expect(text: Vec<u8>) -> Expected {
+    TEXT.store(text.as_ptr().cast_mut(), Ordering::SeqCst);
+    LEN.store(text.len(), Ordering::SeqCst);
+    // SAFETY: the handler reads two atomics and makes calls that a handler may make.
     unsafe { c::signal(SIGBUS, handle) };
-    Expected(line)
+    Expected(text)
 }
 
 impl Drop for Expected {
@@ -46,10 +47,12 @@ impl Drop for Expected {
 }
 
 extern "C" fn handle(_: c_int) {
-    let (line, len) = (LINE.load(Ordering::SeqCst), LEN.load(Ordering::SeqCst));
-    // SAFETY: the line lives as long as its length is not 0, and it is not written to.
+    let (text, len) = (TEXT.load(Ordering::SeqCst), LEN.load(Ordering::SeqCst));
+    // SAFETY: the text lives as long as its length is not 0, and it is not written to.
     unsafe {
-        c::write(STANDARD_OUTPUT, line.cast(), len);
+        for output in OUTPUTS {
+            c::write(output, text.cast(), len);
+        }
         c::_exit(super::FAILED.into())
     }
 }

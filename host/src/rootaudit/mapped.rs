@@ -2,13 +2,15 @@
 //! of a large file only a small part is looked at.
 //!
 //! The audit owes nothing for bytes that change under it. A file must not be written to while it is
-//! audited; a change of its length or date is seen afterwards (`is_unchanged`), and reading past the
-//! end of a file that was cut short meanwhile ends the command (`fault`).
+//! audited; a change is seen afterwards by its stamp (`is_unchanged`), and reading past the end of a
+//! file that was cut short meanwhile ends the command (`fault`).
 
+use super::stamp::Stamp;
+use super::words::grouped;
 use std::ffi::{c_int, c_void, OsStr};
-use std::fs::{self, File};
+use std::fs::{self, File, Metadata, OpenOptions};
 use std::os::fd::AsRawFd;
-use std::time::SystemTime;
+use std::os::unix::fs::{FileExt, OpenOptionsExt};
 use std::{io, ptr, slice};
 
 mod c {
@@ -24,40 +26,42 @@ mod c {
             offset: i64,
         ) -> *mut c_void;
         pub fn munmap(start: *mut c_void, len: usize) -> c_int;
+        pub fn posix_fadvise(file: c_int, offset: i64, len: i64, advice: c_int) -> c_int;
     }
 }
 
-/// What mmap is asked for, on Linux.
+/// What mmap, open and posix_fadvise are asked for, on Linux.
 const PROT_READ: c_int = 1;
 const MAP_PRIVATE: c_int = 2;
-/// What it answers when it fails.
+const O_NONBLOCK: c_int = 0o4000;
+const POSIX_FADV_DONTNEED: c_int = 4;
+/// What mmap answers when it fails.
 const MAP_FAILED: usize = usize::MAX;
+
+/// How much `read_all` reads at once.
+const CHUNK: usize = 1 << 20;
 
 /// A regular file that is mapped as long as this value lives.
 pub struct Mapped {
     file: File,
     start: *mut c_void,
     len: usize,
-    written: SystemTime,
+    stamp: Stamp,
 }
 
 impl Mapped {
     /// Maps a file, or says why it cannot.
     pub fn open(path: &OsStr) -> Result<Self, String> {
-        // Before it is opened: to open a pipe may wait without end.
-        let kind = fs::metadata(path).map_err(|error| error.to_string())?;
-        if kind.is_dir() {
-            return Err("it is a directory".into());
-        }
-        if !kind.is_file() {
-            return Err("it is no regular file".into());
-        }
-        File::open(path).and_then(Self::map).map_err(|error| error.to_string())
+        // Before it is opened, since to open a device may do something; and again after it.
+        regular(fs::metadata(path))?;
+        // Should it have become a pipe, opening it does not wait.
+        let file = OpenOptions::new().read(true).custom_flags(O_NONBLOCK).open(path).map_err(|e| e.to_string())?;
+        let stamp = Stamp::of(&regular(file.metadata())?);
+        Self::map(file, stamp).map_err(|error| error.to_string())
     }
 
-    fn map(file: File) -> io::Result<Self> {
-        let (len, written) = stamp(&file)?;
-        let len = usize::try_from(len).map_err(io::Error::other)?;
+    fn map(file: File, stamp: Stamp) -> io::Result<Self> {
+        let len = usize::try_from(stamp.len).map_err(io::Error::other)?;
         let mut start = ptr::null_mut();
         // Nothing is mapped of an empty file.
         if len > 0 {
@@ -67,7 +71,7 @@ impl Mapped {
                 return Err(io::Error::last_os_error());
             }
         }
-        Ok(Mapped { file, start, len, written })
+        Ok(Mapped { file, start, len, stamp })
     }
 
     pub fn bytes(&self) -> &[u8] {
@@ -79,9 +83,31 @@ impl Mapped {
         unsafe { slice::from_raw_parts(self.start.cast(), self.len) }
     }
 
-    /// Whether the file still has the length and the date of its last change that it was opened with.
-    pub fn is_unchanged(&self) -> bool {
-        stamp(&self.file).is_ok_and(|now| now == (self.len as u64, self.written))
+    /// Its stamp when it was opened.
+    pub fn stamp(&self) -> Stamp {
+        self.stamp
+    }
+
+    /// Whether the open file and the file that now stands at the path have the stamp that it was opened with.
+    pub fn is_unchanged(&self, path: &OsStr) -> bool {
+        self.file.metadata().is_ok_and(|now| Stamp::of(&now) == self.stamp) && self.stamp.is_at(path)
+    }
+
+    /// Fetches every byte, or says where it cannot.
+    pub fn read_all(&self) -> Result<(), String> {
+        // The system is asked to forget what it holds in memory, so that the disk is read. It need not.
+        // SAFETY: the call takes numbers alone.
+        unsafe { c::posix_fadvise(self.file.as_raw_fd(), 0, 0, POSIX_FADV_DONTNEED) };
+        let mut chunk = vec![0; CHUNK];
+        let mut at = 0;
+        while at < self.len {
+            let want = CHUNK.min(self.len - at);
+            self.file.read_exact_at(&mut chunk[..want], at as u64).map_err(|error| {
+                format!("bytes {} to {}: {error}", grouped(at as u64), grouped((at + want - 1) as u64))
+            })?;
+            at += want;
+        }
+        Ok(())
     }
 }
 
@@ -94,7 +120,14 @@ impl Drop for Mapped {
     }
 }
 
-fn stamp(file: &File) -> io::Result<(u64, SystemTime)> {
-    let now = file.metadata()?;
-    Ok((now.len(), now.modified()?))
+/// What is known of a regular file; a word about any other.
+fn regular(found: io::Result<Metadata>) -> Result<Metadata, String> {
+    let found = found.map_err(|error| error.to_string())?;
+    if found.is_dir() {
+        return Err("it is a directory".into());
+    }
+    if !found.is_file() {
+        return Err("it is no regular file".into());
+    }
+    Ok(found)
 }

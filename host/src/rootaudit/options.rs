@@ -1,33 +1,12 @@
 //! The command line.
 
-use std::ffi::OsString;
+use super::version;
+use std::ffi::{OsStr, OsString};
+use std::fs;
 
-pub const USAGE: &str = "usage: rootaudit [--rows] [--] FILE...";
+pub const USAGE: &str = "usage: rootaudit [--rows] [--json] [--quiet] [--read] [--expect N] [--html PAGE] [--] FILE...";
 
-const HELP: &str = "\
-usage: rootaudit [--rows] [--] FILE...
-
-Audits ROOT files through the proved library, and prints a line a file:
-
-    FILE: passed N                       all of its N pieces keep every rule
-    FILE: refused NUMBER at PLACE: ...   the first rule that is broken, in words
-    FILE: could not be read: ...         or what else kept it from being audited
-
-Only `passed` is a pass. Whatever else a line says: do not clear the disk.
-
-An audit reads the structure of a file: its header, records, gaps, free list, directories
-and their lists. It does not unpack the data of an object or look into it.
-
-  --rows      after a pass, print a line a piece: place, size, part and owner. The parts are
-              gap, head, free, info, keys, listed, dir and unlisted. The owner is the place of
-              the directory that a keys, listed or dir piece belongs to, else 0
-  --help      print this
-  --version   print the version
-  --          what follows are files
-
-Exit status: 0 every file passed; 1 a file was refused; 2 a file could not be read or
-audited, or the command line is wrong. 2 goes before 1.
-";
+const HELP: &str = include_str!("help.txt");
 
 /// What the command line asks for.
 #[derive(Debug, PartialEq, Eq)]
@@ -41,31 +20,97 @@ pub enum Request {
 #[derive(Debug, Default, PartialEq, Eq)]
 pub struct Options {
     pub rows: bool,
+    pub json: bool,
+    pub quiet: bool,
+    pub read: bool,
+    pub expect: Option<u64>,
+    pub html: Option<OsString>,
     pub files: Vec<OsString>,
+    /// The arguments that were taken for something else than a file.
+    taken: Vec<OsString>,
 }
 
-/// Takes the arguments in turn, without the name of the program.
+/// Takes the arguments, without the name of the program.
 pub fn parse(arguments: impl IntoIterator<Item = OsString>) -> Request {
+    let arguments: Vec<OsString> = arguments.into_iter().collect();
+    let asked = alone(&arguments);
+    let parsed = match asked {
+        Some(_) => Ok(Options { taken: arguments, ..Options::default() }),
+        None => options(arguments),
+    };
+    match parsed.and_then(|options| checked(options, asked.is_some())) {
+        Ok(options) => asked.map_or(Request::Audit(options), Request::Print),
+        Err(wrong) => Request::Wrong(wrong),
+    }
+}
+
+/// What is to be printed for an option that stands alone.
+fn alone(arguments: &[OsString]) -> Option<String> {
+    let [argument] = arguments else { return None };
+    match argument.to_str() {
+        Some("--help" | "-h") => Some(HELP.into()),
+        Some("--version") => Some(version::text()),
+        _ => None,
+    }
+}
+
+/// The arguments in turn.
+fn options(arguments: Vec<OsString>) -> Result<Options, String> {
     let mut options = Options::default();
     let mut arguments = arguments.into_iter();
     while let Some(argument) = arguments.next() {
         match argument.to_str() {
             Some("--") => options.files.extend(arguments.by_ref()),
             Some("--rows") => options.rows = true,
-            Some("--help" | "-h") => return Request::Print(HELP.into()),
-            Some("--version") => return Request::Print(format!("rootaudit {}\n", env!("CARGO_PKG_VERSION"))),
-            _ if is_option(&argument) => return Request::Wrong(format!("unknown option {argument:?}")),
-            _ => options.files.push(argument),
+            Some("--json") => options.json = true,
+            Some("--quiet") => options.quiet = true,
+            Some("--read") => options.read = true,
+            Some("--expect") => set(&mut options.expect, "--expect", how_many(arguments.next()))?,
+            Some("--html") => set(&mut options.html, "--html", page(arguments.next()))?,
+            Some("--help" | "-h" | "--version") => return Err(format!("{argument:?} stands alone, or it is a file")),
+            _ if is_option(&argument) => return Err(format!("unknown option {argument:?}")),
+            _ => {
+                options.files.push(argument);
+                continue;
+            }
         }
+        options.taken.push(argument);
     }
-    if options.files.is_empty() {
-        return Request::Wrong("no file is named".into());
+    Ok(options)
+}
+
+/// Sets what may be said once.
+fn set<T>(option: &mut Option<T>, name: &str, value: Result<T, &str>) -> Result<(), String> {
+    let value = value.map_err(|wants| format!("{name} wants {wants}"))?;
+    match option.replace(value) {
+        None => Ok(()),
+        Some(_) => Err(format!("{name} is said twice")),
     }
-    Request::Audit(options)
+}
+
+fn how_many(argument: Option<OsString>) -> Result<u64, &'static str> {
+    argument.and_then(|number| number.to_str()?.parse().ok()).ok_or("a number of files")
+}
+
+fn page(argument: Option<OsString>) -> Result<OsString, &'static str> {
+    argument.filter(|page| !page.is_empty() && !is_option(page)).ok_or("the name of a page")
+}
+
+/// Refuses what could be meant in another way than it was taken.
+fn checked(options: Options, printing: bool) -> Result<Options, String> {
+    let is_here = |name: &OsStr| fs::symlink_metadata(name).is_ok() && !options.files.iter().any(|file| file == name);
+    if let Some(name) = options.taken.iter().find(|name| is_here(name)) {
+        return Err(format!("{name:?} is also the name of a file here: write `--` before the files, or ./ before it"));
+    }
+    match (printing, options.files.len(), &options.html) {
+        (false, 0, _) => Err("no file is named".into()),
+        (false, 2.., Some(_)) => Err("--html is for one file".into()),
+        _ => Ok(options),
+    }
 }
 
 /// A lone `-` is a file.
-fn is_option(argument: &OsString) -> bool {
+pub fn is_option(argument: &OsStr) -> bool {
     let bytes = argument.as_encoded_bytes();
     bytes.starts_with(b"-") && bytes.len() > 1
 }

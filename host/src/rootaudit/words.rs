@@ -1,15 +1,17 @@
-//! What is printed.
+//! What is printed of a file.
 
-use super::verdict::{Tables, Verdict};
-use crate::model::audit::part;
-use crate::model::number;
+use super::escape;
+use super::pieces::{self, Piece};
+use super::verdict::Verdict;
+use crate::model::bytes::Cursor;
+use crate::model::{number, Answer};
 use std::ffi::OsStr;
 use std::io::{self, Write};
+use std::ops::RangeInclusive;
 
-/// A file's name on one line: what is not printable is escaped.
+/// A file's name on one line.
 pub fn name(path: &OsStr) -> String {
-    let escaped = |c: char| if c.is_control() { c.escape_default().to_string() } else { c.to_string() };
-    path.to_string_lossy().chars().map(escaped).collect()
+    escape::text(path.as_encoded_bytes())
 }
 
 /// A line about a file.
@@ -17,53 +19,119 @@ pub fn line(name: &str, words: &str) -> String {
     format!("{name}: {words}\n")
 }
 
-/// Writes the line about a file, and the rows of a pass if they are wanted.
-pub fn write(out: &mut dyn Write, name: &str, verdict: &Verdict, rows: bool) -> io::Result<()> {
-    out.write_all(line(name, &said(verdict)).as_bytes())?;
-    match verdict {
-        Verdict::Passed(tables) if rows => write_rows(out, tables),
-        _ => Ok(()),
-    }
-}
-
-fn said(verdict: &Verdict) -> String {
+/// What a line says of a file, after its name.
+pub fn said(verdict: &Verdict, file: &[u8]) -> String {
     match verdict {
         Verdict::Passed(tables) => format!("passed {}", tables.start.len()),
         Verdict::Refused(answer) => {
-            format!("refused {} at {}: {}", answer.number, answer.place, refusal(answer.number))
+            let (what, next) = refusal(answer, file);
+            format!("refused {} at {}: {what}; now: {next}", answer.number, answer.place)
         }
         Verdict::Failed(why) => why.clone(),
     }
 }
 
-/// A refusal in words. "Here" is the place that stands before them.
-pub fn refusal(number: u64) -> &'static str {
-    match number {
-        number::SHORT => "shorter than the header of a ROOT file, 100 bytes",
-        number::MAGIC => "no ROOT file: it does not begin with \"root\"",
-        number::WIDE => "its header is of the large kind, with eight-byte offsets, which is not read, or damaged",
-        number::BOUNDS => "its header gives other bounds than it has: cut short, still growing, added to, or too large",
-        number::CHAIN => "no record and no gap of a possible size stands here",
-        number::KEY => "the record here has a damaged key, or one with eight-byte offsets, which is not read",
-        number::UNFINISHED => "not audited to its end",
-        number::HEAD => "the record of the file itself, which stands here, is damaged",
-        number::FREE => "the list of free space, which should stand here, is damaged or is not that of the gaps",
-        number::INFO => "the StreamerInfo record, which should stand here, is damaged or missing",
-        number::DIRECTORY => "the directory here has a damaged header",
-        number::KEYS => "the list of a directory's keys, which should stand here, is damaged or missing",
-        number::ENTRY => "the entry here in a list of keys is not that of a record of its directory",
-        number::TWICE => "the directory, or the entry of a list, that stands here claims a record a second time",
-        _ => "a number that the audit does not give",
+/// What to do next.
+pub const AGAIN: &str = "copy it again; if that is refused too, keep both and call an analyst";
+pub const LOOK: &str = "see what it is; if it should be a ROOT file, copy it again, and keep both";
+pub const KEEP: &str = "keep it: such files are not read yet, so nothing is known of it";
+pub const WAIT: &str = "if the recorder still writes it, wait; else copy it again, and keep both";
+
+/// A refusal in words: what is wrong, and what to do next. "Here" is the place that stands before them.
+pub fn refusal(answer: &Answer, file: &[u8]) -> (String, &'static str) {
+    let (what, next) = match answer.number {
+        number::SHORT => ("shorter than the header of a ROOT file, 100 bytes", AGAIN),
+        number::MAGIC => ("no ROOT file: it does not begin with \"root\"", LOOK),
+        number::WIDE => ("its header is of the large kind, with eight-byte offsets, or damaged", KEEP),
+        number::BOUNDS => return (bounds(file), WAIT),
+        number::CHAIN => ("no record and no gap of a possible size stands here", AGAIN),
+        number::KEY => return key(file, answer.place),
+        number::HEAD => ("the record of the file itself, which stands here, is damaged", AGAIN),
+        number::FREE => {
+            ("the list of free space, which should stand here, is damaged or is not that of the gaps", AGAIN)
+        }
+        number::INFO => ("the StreamerInfo record, which should stand here, is damaged or missing", AGAIN),
+        number::DIRECTORY => ("the directory here has a damaged header", AGAIN),
+        number::KEYS => ("the list of a directory's keys, which should stand here, is damaged or missing", AGAIN),
+        number::ENTRY => ("the entry here in a list of keys is not that of a record of its directory", AGAIN),
+        number::TWICE => {
+            ("the directory, or the entry of a list, that stands here claims a record a second time", AGAIN)
+        }
+        _ => ("a number that the audit does not give", AGAIN),
+    };
+    (what.into(), next)
+}
+
+/// END of the file header.
+pub fn end_of(file: &[u8]) -> Option<u64> {
+    Cursor::new(file, 12).u32().map(u64::from)
+}
+
+/// What is wrong with the bounds in the file header.
+fn bounds(file: &[u8]) -> String {
+    let begin = Cursor::new(file, 8).u32().map_or(0, u64::from);
+    let (end, len) = (end_of(file).unwrap_or(0), file.len() as u64);
+    if end != len {
+        format!("its header says {} bytes, it has {}", grouped(end), grouped(len))
+    } else if begin != pieces::BEGIN {
+        format!("its header says that its records begin at byte {}, and not at 100", grouped(begin))
+    } else {
+        format!("it has {} bytes, and at most 1,999,999,999 are read yet", grouped(len))
     }
 }
 
-/// A line a piece, as the program `rootmap` prints them: place, size, part and owner.
-fn write_rows(out: &mut dyn Write, tables: &Tables) -> io::Result<()> {
-    let ends = tables.start.iter().skip(1).map(|&next| next as usize).chain([tables.end]);
-    for (((&start, end), &part), owner) in tables.start.iter().zip(ends).zip(&tables.part).zip(&tables.owner) {
-        let size = end.saturating_sub(start as usize);
-        let part = part::NAMES.get(part as usize).unwrap_or(&"?");
-        writeln!(out, "{start} {size} {part} {owner}")?;
+/// Versions of a key with eight-byte offsets.
+const WIDE_KEYS: RangeInclusive<u16> = 1001..=2000;
+
+/// What is wrong with the key at a place, by its version.
+fn key(file: &[u8], place: u64) -> (String, &'static str) {
+    // The place is that of a piece, so it lies in the file.
+    match Cursor::new(file, (place as usize).saturating_add(4)).u16() {
+        Some(version) if WIDE_KEYS.contains(&version) => {
+            (format!("the record here has a key of version {version}, with eight-byte offsets, or a damaged one"), KEEP)
+        }
+        _ => ("the record here has a damaged key, or says that it stands elsewhere".into(), AGAIN),
     }
-    Ok(())
+}
+
+/// A number with a comma after each three digits.
+pub fn grouped(number: u64) -> String {
+    let digits = number.to_string();
+    let mut text = String::new();
+    for (nth, digit) in digits.chars().enumerate() {
+        if nth > 0 && (digits.len() - nth) % 3 == 0 {
+            text.push(',');
+        }
+        text.push(digit);
+    }
+    text
+}
+
+/// A line a piece. Those of a pass begin as the program `rootmap` prints them, with place, size, part and owner;
+/// behind tabs follow a record's class, and its name and cycle. Those before a break in the chain are marked.
+pub fn write_rows(out: &mut dyn Write, verdict: &Verdict, file: &[u8]) -> io::Result<()> {
+    match verdict {
+        Verdict::Passed(tables) => pieces::of_pass(tables).try_for_each(|piece| {
+            write!(out, "{} {} {} {}", piece.start, piece.size, piece.kind_name(), piece.owner)?;
+            write_key(out, &piece, file)
+        }),
+        Verdict::Refused(answer) if is_break(answer) => pieces::Walk::new(file).try_for_each(|piece| {
+            write!(out, "no verdict: {} {} {}", piece.start, piece.size, piece.kind_name())?;
+            write_key(out, &piece, file)
+        }),
+        _ => Ok(()),
+    }
+}
+
+/// Whether the chain of pieces is broken at the refusal's place.
+pub fn is_break(answer: &Answer) -> bool {
+    [number::CHAIN, number::KEY].contains(&answer.number)
+}
+
+/// The rest of a piece's line.
+fn write_key(out: &mut dyn Write, piece: &Piece, file: &[u8]) -> io::Result<()> {
+    if let Some(key) = pieces::key_at(file, piece.start) {
+        write!(out, "\t{}\t{};{}", escape::text(key.class), escape::text(key.name), key.cycle)?;
+    }
+    writeln!(out)
 }

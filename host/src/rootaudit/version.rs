@@ -1,0 +1,18 @@
+//! What the program was made of. The build script asks for commit and toolchain.
+
+/// The requests to document 01 that are in; each changes verdicts.
+const REQUESTS: &str = "none: verdicts are those of document 01's base";
+
+pub fn text() -> String {
+    format!(
+        "rootaudit {}\nrequests: {REQUESTS}\ncommit: {}\ntoolchain: {}\n",
+        env!("CARGO_PKG_VERSION"),
+        env!("ROOTAUDIT_COMMIT"),
+        env!("ROOTAUDIT_TOOLCHAIN")
+    )
+}
+
+/// The same on one line, for a page.
+pub fn line() -> String {
+    text().trim_end().replace('\n', "; ")
+}
