@@ -2,10 +2,10 @@
 
 use kirovadzun_host::compare::info::read_info;
 use kirovadzun_host::compare::Tally;
+use kirovadzun_host::ffi::Answer;
 use kirovadzun_host::gen::infos::{all_kinds, build, class, classes, Class, Field, Info, What};
 use kirovadzun_host::gen::{self, Rng};
 use kirovadzun_host::model::streamer::{ARRAY, CLASS_MASK, INFO, KINDS, NEW_CLASS, REFERENCED};
-use kirovadzun_host::model::Answer;
 use std::{env, fs};
 
 /// Random bytes, the record at `at`, and random bytes after it.

@@ -1,6 +1,6 @@
 //! Files written by ROOT. They are not part of the repository: ROOT_FILES names their folder.
 
-use kirovadzun_host::model::Answer;
+use kirovadzun_host::ffi::Answer;
 use std::path::{Path, PathBuf};
 use std::{env, fs};
 
