@@ -7,6 +7,9 @@ use crate::ffi::{self, Answer};
 use crate::model::audit::{self, Row};
 use crate::model::rules;
 
+/// An audit of the file at hand into three tables.
+type Run<'a> = &'a dyn Fn([&mut [u32]; 3]) -> Answer;
+
 /// Audits with tables of these lengths. The answer, and the rows of a pass.
 pub fn audit(tally: &mut Tally, file: &[u8], lengths: [usize; 3]) -> (Answer, Vec<Row>) {
     let [start_len, part_len, owner_len] = lengths;
@@ -17,7 +20,7 @@ pub fn audit(tally: &mut Tally, file: &[u8], lengths: [usize; 3]) -> (Answer, Ve
     let library =
         |tables: [&mut [u32]; 3]| answer_of(garbage, |place, count| ffi::audit::audit(file, tables, place, count));
     let fast = |tables: [&mut [u32]; 3]| fast::audit::audit(file, tables);
-    let programs: [(&str, &dyn Fn([&mut [u32]; 3]) -> Answer); 2] = [("library", &library), ("fast program", &fast)];
+    let programs: [(&str, Run); 2] = [("library", &library), ("fast program", &fast)];
     for (program, run) in programs {
         let mut tables = lengths.map(|len| Table::new(len, fill, garbage as u32));
         let got = run(tables.each_mut().map(Table::lent));

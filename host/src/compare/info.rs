@@ -6,6 +6,9 @@ use crate::fast;
 use crate::ffi::{self, Answer};
 use crate::model::streamer::{self, Row};
 
+/// A reader of the record at hand into a table.
+type Run<'a> = &'a dyn Fn(&mut [u32]) -> Answer;
+
 /// Reads the record at `at` with a table of `len` numbers. The answer, and the rows of a success.
 pub fn read_info(tally: &mut Tally, file: &[u8], at: u64, len: usize) -> (Answer, Vec<Row>) {
     let (answer, rows) = streamer::read_info(file, at, len);
@@ -15,7 +18,7 @@ pub fn read_info(tally: &mut Tally, file: &[u8], at: u64, len: usize) -> (Answer
     let library =
         |table: &mut [u32]| answer_of(garbage, |place, count| ffi::info::read_info(file, at, table, place, count));
     let fast = |table: &mut [u32]| fast::info::read_info(file, at, table);
-    let programs: [(&str, &dyn Fn(&mut [u32]) -> Answer); 2] = [("library", &library), ("fast program", &fast)];
+    let programs: [(&str, Run); 2] = [("library", &library), ("fast program", &fast)];
     for (program, read) in programs {
         let mut table = Table::new(len, garbage as u32, garbage as u32);
         let got = read(table.lent());
