@@ -4,37 +4,45 @@ use crate::programs::Program;
 use std::hint::black_box;
 use std::time::{Duration, Instant};
 
+mod clock;
+
 /// A run that takes longer is not repeated.
 const LONG: Duration = Duration::from_millis(500);
 
-/// The shortest time of `runs` runs. Before each, and not in its time, `state` is made ready.
+/// The shortest time that `runs` runs took. Before each, and not in its time, `state` is made ready.
 pub fn best<T, R>(runs: usize, state: &mut T, ready: impl Fn(&mut T), run: impl Fn(&mut T) -> R) -> Duration {
+    let begun = Instant::now();
+    shortest(|| begun.elapsed(), runs, state, ready, run)
+}
+
+/// The same by processor time: waiting for a core does not count.
+pub fn best_used<T, R>(runs: usize, state: &mut T, ready: impl Fn(&mut T), run: impl Fn(&mut T) -> R) -> Duration {
+    shortest(clock::used, runs, state, ready, run)
+}
+
+fn shortest<T, R>(
+    now: impl Fn() -> Duration,
+    runs: usize,
+    state: &mut T,
+    ready: impl Fn(&mut T),
+    run: impl Fn(&mut T) -> R,
+) -> Duration {
     let mut shortest = Duration::MAX;
     for _ in 0..runs {
         ready(state);
-        let start = Instant::now();
+        let start = now();
         black_box(run(black_box(state)));
-        shortest = shortest.min(start.elapsed());
-        if shortest > LONG {
+        shortest = shortest.min(now() - start);
+        if is_long(shortest) {
             break;
         }
     }
     shortest
 }
 
-/// The shortest time so far and that of `runs` more, unless it is known to be long.
-pub fn better<T, R>(
-    so_far: Duration,
-    runs: usize,
-    state: &mut T,
-    ready: impl Fn(&mut T),
-    run: impl Fn(&mut T) -> R,
-) -> Duration {
-    let measured = so_far < Duration::MAX;
-    if measured && so_far > LONG {
-        return so_far;
-    }
-    so_far.min(best(runs, state, ready, run))
+/// Whether a time is known, and too long to be taken again.
+pub fn is_long(time: Duration) -> bool {
+    (LONG..Duration::MAX).contains(&time)
 }
 
 /// The shorter of two times, for each of several programs. Programs that take turns meet the same other

@@ -2,7 +2,7 @@
 
 use kirovadzun_host::gen::infos::of_elements;
 use kirovadzun_host::programs::Program;
-use kirovadzun_host::timing::{best, print, shorter, Line};
+use kirovadzun_host::timing::{best_used, print, shorter, Line};
 use std::time::Duration;
 
 const ELEMENTS: [usize; 3] = [1_000, 10_000, 100_000];
@@ -23,7 +23,7 @@ fn measure(elements: usize) -> Line {
         assert_eq!((answer.number, answer.count), (0, elements as u64), "{}", program.name());
     };
     let turn = |table: &mut Vec<u32>| {
-        Program::ALL.map(|program| best(RUNS, table, |table| table.fill(0), |table| read(program, table)))
+        Program::ALL.map(|program| best_used(RUNS, table, |table| table.fill(0), |table| read(program, table)))
     };
     let times = (0..TURNS).fold([Duration::MAX; 3], |times, _| shorter(times, turn(&mut table)));
     Line { items: elements, bytes: info.bytes.len(), times }
