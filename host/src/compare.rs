@@ -2,9 +2,9 @@
 //!
 //! Lent memory holds garbage before each call, and guards stand before and after what is written.
 
-use crate::ffi;
+use crate::ffi::{self, Answer};
+use crate::model::date;
 use crate::model::key::{self, NewKey, Piece};
-use crate::model::{date, Answer};
 use std::collections::BTreeMap;
 use std::hint::black_box;
 

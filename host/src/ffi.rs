@@ -5,8 +5,13 @@
 
 use crate::model::key::NewKey;
 
+mod answer;
 pub mod audit;
 pub mod info;
+pub mod number;
+pub mod part;
+
+pub use answer::Answer;
 
 /// Indices into the fields of `read_piece`.
 pub const KIND: usize = 0;

@@ -6,6 +6,7 @@ pub mod faults;
 pub mod files;
 pub mod infos;
 pub mod nested;
+pub mod shapes;
 
 /// The splitmix64 generator.
 pub struct Rng(u64);

@@ -1,17 +1,48 @@
 //! What the benchmarks share: the best of several runs, and a table of them.
 
+use crate::programs::Program;
 use std::hint::black_box;
 use std::time::{Duration, Instant};
 
-/// The shortest time of `runs` runs. Before each, and not in its time, `state` is made ready.
+mod clock;
+
+/// A run that takes longer is not repeated.
+const LONG: Duration = Duration::from_millis(500);
+
+/// The shortest time that `runs` runs took. Before each, and not in its time, `state` is made ready.
 pub fn best<T, R>(runs: usize, state: &mut T, ready: impl Fn(&mut T), run: impl Fn(&mut T) -> R) -> Duration {
-    let times = (0..runs).map(|_| {
+    let begun = Instant::now();
+    shortest(|| begun.elapsed(), runs, state, ready, run)
+}
+
+/// The same by processor time: waiting for a core does not count.
+pub fn best_used<T, R>(runs: usize, state: &mut T, ready: impl Fn(&mut T), run: impl Fn(&mut T) -> R) -> Duration {
+    shortest(clock::used, runs, state, ready, run)
+}
+
+fn shortest<T, R>(
+    now: impl Fn() -> Duration,
+    runs: usize,
+    state: &mut T,
+    ready: impl Fn(&mut T),
+    run: impl Fn(&mut T) -> R,
+) -> Duration {
+    let mut shortest = Duration::MAX;
+    for _ in 0..runs {
         ready(state);
-        let start = Instant::now();
+        let start = now();
         black_box(run(black_box(state)));
-        start.elapsed()
-    });
-    times.min().unwrap_or_default()
+        shortest = shortest.min(now() - start);
+        if is_long(shortest) {
+            break;
+        }
+    }
+    shortest
+}
+
+/// Whether a time is known, and too long to be taken again.
+pub fn is_long(time: Duration) -> bool {
+    (LONG..Duration::MAX).contains(&time)
 }
 
 /// The shorter of two times, for each of several programs. Programs that take turns meet the same other
@@ -30,33 +61,42 @@ pub fn print_bar(what: &str, measured: f64, most: f64) {
 pub struct Line {
     pub items: usize,
     pub bytes: usize,
-    pub library: Duration,
-    pub model: Duration,
+    /// In the order of `Program::ALL`.
+    pub times: [Duration; 3],
 }
 
-/// Prints the lines, and how both programs grow from the line before.
+impl Line {
+    /// The library's time to that of another program.
+    pub fn ratio(&self, to: Program) -> f64 {
+        quotient(self.times[Program::Library as usize], self.times[to as usize])
+    }
+}
+
+/// Prints the lines, and how each program grows from the line before.
 pub fn print(heading: &str, items: &str, lines: &[Line]) {
     println!("{heading}");
-    println!("{items:>9}  {:>11}  {:>12}  {:>12}  {:>13}  growth", "bytes", "library", "model", "library/model");
+    let [library, second, fast] = Program::ALL.map(Program::name);
+    println!(
+        "{items:>9}  {:>10}  {library:>13}  {second:>13}  {fast:>13}  {library}/{second}  {library}/{fast}  growth",
+        "bytes"
+    );
     let mut before: Option<&Line> = None;
     for line in lines {
-        let ratio = quotient(line.library, line.model);
+        let [library, second, fast] = line.times.map(micros);
         print!(
-            "{:>9}  {:>11}  {:>9.1} us  {:>9.1} us  {ratio:>13.2}",
+            "{:>9}  {:>10}  {library:>10.1} us  {second:>10.1} us  {fast:>10.1} us  {:>14.2}  {:>12.2}",
             line.items,
             line.bytes,
-            micros(line.library),
-            micros(line.model),
+            line.ratio(Program::Second),
+            line.ratio(Program::Fast),
         );
-        match before {
-            Some(before) => println!(
-                "  items {:.1}, library {:.1}, model {:.1}",
-                line.items as f64 / before.items as f64,
-                quotient(line.library, before.library),
-                quotient(line.model, before.model),
-            ),
-            None => println!(),
+        if let Some(before) = before {
+            let growth =
+                Program::ALL.map(|program| quotient(line.times[program as usize], before.times[program as usize]));
+            let growth = growth.map(|times| format!("{times:.1}")).join(", ");
+            print!("  {growth} for {:.1} times the {items}", line.items as f64 / before.items as f64);
         }
+        println!();
         before = Some(line);
     }
     println!();

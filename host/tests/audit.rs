@@ -2,10 +2,10 @@
 
 use kirovadzun_host::compare::audit::{audit, audit_by_rules};
 use kirovadzun_host::compare::Tally;
+use kirovadzun_host::ffi::{part, Answer};
 use kirovadzun_host::gen::files::one_root_plan;
 use kirovadzun_host::gen::{one_root, Rng, ONE_ROOT_LIST};
-use kirovadzun_host::model::audit::{part, Row};
-use kirovadzun_host::model::Answer;
+use kirovadzun_host::model::audit::Row;
 
 const ROWS: [Row; 5] = [
     Row { start: 100, part: part::HEAD, owner: 0 },

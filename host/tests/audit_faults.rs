@@ -2,10 +2,10 @@
 
 use kirovadzun_host::compare::audit::{audit, audit_by_rules, audit_with_room};
 use kirovadzun_host::compare::Tally;
+use kirovadzun_host::ffi::Answer;
 use kirovadzun_host::gen::faults::{self, Fault, Target};
 use kirovadzun_host::gen::files::{plan, Built, LARGE, RICH};
 use kirovadzun_host::gen::Rng;
-use kirovadzun_host::model::Answer;
 
 /// The numbers that the audit can answer with room enough.
 const NUMBERS: [u64; 14] = [0, 1, 2, 3, 4, 5, 6, 8, 9, 10, 11, 12, 13, 14];

@@ -4,11 +4,11 @@ mod root_folder;
 
 use kirovadzun_host::compare::audit::{audit, audit_by_rules, audit_with_room};
 use kirovadzun_host::compare::Tally;
+use kirovadzun_host::ffi::Answer;
 use kirovadzun_host::gen::faults::{self, Target};
 use kirovadzun_host::gen::files::{deep_plan, plan, Built, Plan, LARGE, RICH, SMALL};
 use kirovadzun_host::gen::{damage, nested, Rng};
 use kirovadzun_host::model::audit::pieces;
-use kirovadzun_host::model::Answer;
 use std::fs;
 
 #[test]

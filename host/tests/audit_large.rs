@@ -4,8 +4,8 @@ mod zeros;
 
 use kirovadzun_host::compare::audit::audit;
 use kirovadzun_host::compare::Tally;
+use kirovadzun_host::ffi::Answer;
 use kirovadzun_host::gen::one_root;
-use kirovadzun_host::model::Answer;
 use zeros::Zeros;
 
 const MOST_END: usize = 1_999_999_999;

@@ -3,9 +3,9 @@
 
 use kirovadzun_host::compare::audit::audit_by_rules;
 use kirovadzun_host::compare::Tally;
+use kirovadzun_host::ffi::Answer;
 use kirovadzun_host::gen::files::{keys, segment_bytes, Built, Item, Plan, Role};
 use kirovadzun_host::gen::{plain_key_of, RawKey, Rng};
-use kirovadzun_host::model::Answer;
 
 const HEAD: usize = 0;
 const A: usize = 1;

@@ -1,10 +1,9 @@
 //! The worked examples of document 01 on dates, sums and pieces, for the proved library and the model.
 
 use kirovadzun_host::compare::{pack_date, read_piece, unpack_date, write_key, Tally};
-use kirovadzun_host::ffi;
+use kirovadzun_host::ffi::{self, Answer};
 use kirovadzun_host::gen::{one_root, plain_key_of, Rng};
 use kirovadzun_host::model::key::NewKey;
-use kirovadzun_host::model::Answer;
 
 fn answer(number: u64, place: u64, count: u64) -> Answer {
     Answer { number, place, count }

@@ -1,12 +1,14 @@
 //! StreamerInfo records: the proved library against the model, and each fault by itself.
 
+mod root_folder;
+
 use kirovadzun_host::compare::info::read_info;
 use kirovadzun_host::compare::Tally;
+use kirovadzun_host::ffi::Answer;
 use kirovadzun_host::gen::infos::{all_kinds, build, class, classes, Class, Field, Info, What};
 use kirovadzun_host::gen::{self, Rng};
 use kirovadzun_host::model::streamer::{ARRAY, CLASS_MASK, INFO, KINDS, NEW_CLASS, REFERENCED};
-use kirovadzun_host::model::Answer;
-use std::{env, fs};
+use std::fs;
 
 /// Random bytes, the record at `at`, and random bytes after it.
 fn file_with(rng: &mut Rng, at: usize, record: &[u8]) -> Vec<u8> {
@@ -550,13 +552,9 @@ fn damaged_records() {
 /// The info records of files written by ROOT are packed.
 #[test]
 fn root_files() {
-    let Some(folder) = env::var_os("ROOT_FILES") else {
-        println!("skipped: ROOT_FILES names no folder of *.root files");
-        return;
-    };
+    let Some(paths) = root_folder::root_files() else { return };
     let mut tally = Tally::new("read_info, files written by ROOT");
-    let entries = fs::read_dir(folder).unwrap().map(|entry| entry.unwrap().path());
-    for path in entries.filter(|path| path.extension().is_some_and(|extension| extension == "root")) {
+    for path in paths {
         let file = fs::read(&path).unwrap();
         let seek_info = get32(&file, 37) as u64;
         let (answer, _) = read_info(&mut tally, &file, seek_info, 60);

@@ -4,9 +4,9 @@ mod zeros;
 
 use kirovadzun_host::compare::info::read_info;
 use kirovadzun_host::compare::Tally;
+use kirovadzun_host::ffi::Answer;
 use kirovadzun_host::gen::infos::{all_kinds, build, What};
 use kirovadzun_host::gen::Rng;
-use kirovadzun_host::model::Answer;
 use zeros::Zeros;
 
 /// Below 2^32 a record is read and its fault has a place there; from 2^32 on SeekKey cannot be its

@@ -3,9 +3,9 @@
 mod zeros;
 
 use kirovadzun_host::compare::{answer_of, read_piece, Tally};
-use kirovadzun_host::ffi;
+use kirovadzun_host::ffi::{self, Answer};
 use kirovadzun_host::gen::{plain_key_of, Rng};
-use kirovadzun_host::model::{key, Answer};
+use kirovadzun_host::model::key;
 use zeros::{Zeros, LEN};
 
 const WIDE: usize = 1 << 32;

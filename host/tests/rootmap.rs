@@ -2,10 +2,10 @@
 
 mod root_folder;
 
+use kirovadzun_host::ffi::{number, part};
 use kirovadzun_host::gen::files::{one_root_plan, plan, Item, Role, SMALL};
 use kirovadzun_host::gen::{damage, one_root, Rng, ONE_ROOT_LIST};
-use kirovadzun_host::model::audit::{audit, part};
-use kirovadzun_host::model::number;
+use kirovadzun_host::model::audit::audit;
 use root_folder::root_files;
 use std::fs;
 use std::io::Write;

@@ -1,50 +1,43 @@
-//! The audit through the C interface beside the model's, on the same files in one run.
+//! The audit through the C interface beside the two Rust programs, on the same files in one run. Arguments name
+//! shapes; without any all are measured.
 
-use kirovadzun_host::ffi;
-use kirovadzun_host::gen::files::{plan_of, shuffle, Plan};
-use kirovadzun_host::gen::{nested, Rng};
-use kirovadzun_host::model::audit;
-use kirovadzun_host::timing::{best, print, print_bar, quotient, shorter, Line};
+use kirovadzun_host::gen::shapes::{self, Shape};
+use kirovadzun_host::model::audit::BEGIN;
+use kirovadzun_host::programs::Program;
+use kirovadzun_host::timing::{best_used, is_long, print, print_bar, quotient, Line};
+use std::env;
 use std::time::Duration;
 
 const PIECES: [usize; 3] = [1_000, 20_000, 200_000];
 /// How often each size has its turn, and for what has no bar.
 const TURNS: usize = 30;
-const FEW_TURNS: usize = 2;
-/// Runs of a program in one turn: after the first it finds the file in the cache as the other does.
+const FEW_TURNS: usize = 8;
+/// Runs of a program in one turn: after the first it finds the file in the cache as the others do.
 const RUNS: usize = 3;
-/// Of the library's time to the model's, and of the time for 200,000 pieces to that for 20,000.
+/// Of the library's time to the second program's, and of the time for 200,000 pieces to that for 20,000.
 const MOST_RATIO: f64 = 1.5;
 const MOST_GROWTH: f64 = 15.0;
 
 fn main() {
-    let (lines, walks) = measure(tree, TURNS);
-    print("audit, a tree of directories of 20 pieces, as they are written", "pieces", &lines);
-    print_bars(&lines);
-    print_walks(&walks);
-
-    let (lines, _) = measure(|pieces| plan_of(&mut Rng::new(1), pieces, 0, false), FEW_TURNS);
-    print("audit, one directory", "pieces", &lines);
-    let (lines, _) = measure(scattered, FEW_TURNS);
-    print("audit, the tree with its pieces in any order", "pieces", &lines);
-}
-
-fn tree(pieces: usize) -> Plan {
-    nested::plan(&mut Rng::new(1), pieces, 0)
-}
-
-fn scattered(pieces: usize) -> Plan {
-    let mut plan = tree(pieces);
-    shuffle(&mut Rng::new(2), &mut plan.order[1..]);
-    plan
+    let names: Vec<String> = env::args().skip(1).collect();
+    let is_chosen = |shape: &&Shape| names.is_empty() || names.iter().any(|name| name == shape.name);
+    for shape in shapes::ALL.iter().filter(is_chosen) {
+        let has_bars = shape.name == shapes::ALL[0].name;
+        let (lines, walks) = measure(shape, if has_bars { TURNS } else { FEW_TURNS });
+        print(&format!("audit, {}", shape.name), "pieces", &lines);
+        if has_bars {
+            print_bars(&lines);
+        }
+        print_walks(&walks);
+    }
 }
 
 fn print_bars(lines: &[Line; 3]) {
     for line in lines {
-        print_bar(&format!("library/model, {} pieces", line.items), quotient(line.library, line.model), MOST_RATIO);
+        print_bar(&format!("library/second, {} pieces", line.items), line.ratio(Program::Second), MOST_RATIO);
     }
-    let [_, before, last] = lines;
-    print_bar("growth of the library, 200000/20000", quotient(last.library, before.library), MOST_GROWTH);
+    let [before, last] = [1, 2].map(|line: usize| lines[line].times[Program::Library as usize]);
+    print_bar("growth of the library, 200000/20000", quotient(last, before), MOST_GROWTH);
 }
 
 /// What grows faster than the pieces here is the cost of memory, not of the audit.
@@ -62,26 +55,25 @@ struct Case {
 }
 
 impl Case {
-    fn new(plan: &Plan) -> Self {
-        let mut case = Case { file: plan.build().bytes, tables: [0; 3].map(|_| vec![1; plan.order.len()]) };
-        case.check();
+    fn new(shape: &Shape, pieces: usize) -> Self {
+        let file = (shape.plan)(pieces).build().bytes;
+        let case = Case { file, tables: [0; 3].map(|_| vec![0; pieces]) };
+        assert_eq!(case.walk(), pieces, "{}", shape.name);
         case
-    }
-
-    fn library(&mut self) -> (u64, u64, u64) {
-        let (mut place, mut count) = (0, 0);
-        let tables = self.tables.each_mut().map(Vec::as_mut_slice);
-        let number = ffi::audit::audit(&self.file, tables, &mut place, &mut count);
-        (number, place, count)
     }
 
     fn pieces(&self) -> usize {
         self.tables[0].len()
     }
 
+    fn audit(&mut self, program: Program) {
+        let answer = program.audit(&self.file, self.tables.each_mut().map(Vec::as_mut_slice));
+        assert_eq!((answer.number, answer.count), (0, self.pieces() as u64), "{}", program.name());
+    }
+
     /// Follows the sizes from piece to piece: how many there are.
     fn walk(&self) -> usize {
-        let (mut at, mut pieces) = (audit::BEGIN, 0);
+        let (mut at, mut pieces) = (BEGIN, 0);
         while let Some(size) = self.file.get(at..).and_then(|rest| rest.first_chunk()) {
             at += i32::from_be_bytes(*size).unsigned_abs() as usize;
             pieces += 1;
@@ -95,40 +87,28 @@ impl Case {
         }
     }
 
-    /// Both pass, with the same rows.
-    fn check(&mut self) {
-        let pieces = self.pieces();
-        assert_eq!(self.library(), (0, 0, pieces as u64));
-        assert_eq!(self.walk(), pieces);
-        let (_, rows) = audit::audit(&self.file, pieces);
-        let [start, part, owner] = &self.tables;
-        assert!(rows.iter().map(|row| row.start).eq(start.iter().copied()), "other starts");
-        assert!(rows.iter().map(|row| row.part).eq(part.iter().copied()), "other parts");
-        assert!(rows.iter().map(|row| row.owner).eq(owner.iter().copied()), "other owners");
+    /// One turn: the shortest times so far of all programs, and of the walk.
+    fn turn(&mut self, times: &mut [Duration; 3], walk: &mut Duration) {
+        for program in Program::ALL {
+            let time = &mut times[program as usize];
+            if !is_long(*time) {
+                *time = (*time).min(best_used(RUNS, self, Case::clear, |case| case.audit(program)));
+            }
+        }
+        *walk = (*walk).min(best_used(RUNS, self, Case::clear, |case| case.walk()));
     }
 }
 
 /// All sizes in turn: a line for each, and the time to follow the sizes alone.
-fn measure(plan: impl Fn(usize) -> Plan, turns: usize) -> ([Line; 3], [Duration; 3]) {
-    let mut cases = PIECES.map(|pieces| Case::new(&plan(pieces)));
-    let mut shortest = [[Duration::MAX; 3]; 3];
+fn measure(shape: &Shape, turns: usize) -> ([Line; 3], [Duration; 3]) {
+    let mut cases = PIECES.map(|pieces| Case::new(shape, pieces));
+    let mut times = [[Duration::MAX; 3]; 3];
+    let mut walks = [Duration::MAX; 3];
     for _ in 0..turns {
-        for (case, shortest) in cases.iter_mut().zip(&mut shortest) {
-            *shortest = shorter(*shortest, turn(case));
+        for (nth, case) in cases.iter_mut().enumerate() {
+            case.turn(&mut times[nth], &mut walks[nth]);
         }
     }
-    let line = |nth: usize| {
-        let (case, [library, model, _]) = (&cases[nth], shortest[nth]);
-        Line { items: case.pieces(), bytes: case.file.len(), library, model }
-    };
-    ([0, 1, 2].map(line), shortest.map(|[.., walk]| walk))
-}
-
-/// The best of some runs of the library, the model and the walk.
-fn turn(case: &mut Case) -> [Duration; 3] {
-    [
-        best(RUNS, case, Case::clear, Case::library),
-        best(RUNS, case, Case::clear, |case| audit::audit(&case.file, case.pieces())),
-        best(RUNS, case, Case::clear, |case| case.walk()),
-    ]
+    let line = |nth: usize| Line { items: cases[nth].pieces(), bytes: cases[nth].file.len(), times: times[nth] };
+    ([0, 1, 2].map(line), walks)
 }

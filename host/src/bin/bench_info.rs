@@ -1,42 +1,30 @@
-//! The StreamerInfo reader through the C interface beside the model's, on the same records in one run.
+//! The StreamerInfo reader through the C interface beside the two Rust readers, on the same records in one run.
 
-use kirovadzun_host::ffi;
-use kirovadzun_host::gen::infos::{build, class, Class};
-use kirovadzun_host::gen::Rng;
-use kirovadzun_host::model::streamer;
-use kirovadzun_host::timing::{best, print, Line};
+use kirovadzun_host::gen::infos::of_elements;
+use kirovadzun_host::programs::Program;
+use kirovadzun_host::timing::{best_used, print, shorter, Line};
+use std::time::Duration;
 
-const ELEMENTS: [usize; 2] = [1_000, 10_000];
-/// Elements to a class.
-const EACH: usize = 20;
-const RUNS: usize = 15;
+const ELEMENTS: [usize; 3] = [1_000, 10_000, 100_000];
+/// How often each program has its turn, and its runs in one.
+const TURNS: usize = 10;
+const RUNS: usize = 3;
 
 fn main() {
-    let lines: Vec<Line> = ELEMENTS.iter().map(|&elements| measure(elements)).collect();
+    let lines = ELEMENTS.map(measure);
     print("read_info, all ten kinds, 20 elements to a class", "elements", &lines);
 }
 
-fn classes(rng: &mut Rng, elements: usize) -> Vec<Class> {
-    let kinds: Vec<usize> = (0..EACH).map(|nth| 1 + nth % 10).collect();
-    (0..elements / EACH).map(|_| class(rng, &kinds)).collect()
-}
-
-fn library(file: &[u8], table: &mut [u32]) -> (u64, u64, u64) {
-    let (mut place, mut count) = (0, 0);
-    let number = ffi::info::read_info(file, 0, table, &mut place, &mut count);
-    (number, place, count)
-}
-
 fn measure(elements: usize) -> Line {
-    let mut rng = Rng::new(elements as u64);
-    let classes = classes(&mut rng, elements);
-    let info = build(&mut rng, 0, &classes, None);
+    let info = of_elements(elements);
     let mut table = vec![1; 6 * elements];
-    assert_eq!(library(&info.bytes, &mut table), (0, 0, elements as u64));
-    assert!(table == info.rows.concat(), "other rows");
-    assert!(streamer::read_info(&info.bytes, 0, table.len()).1 == info.rows, "other rows of the model");
-    let len = table.len();
-    let library = best(RUNS, &mut table, |table| table.fill(0), |table| library(&info.bytes, table));
-    let model = best(RUNS, &mut (), |()| {}, |()| streamer::read_info(&info.bytes, 0, len));
-    Line { items: elements, bytes: info.bytes.len(), library, model }
+    let read = |program: Program, table: &mut Vec<u32>| {
+        let answer = program.read_info(&info.bytes, table);
+        assert_eq!((answer.number, answer.count), (0, elements as u64), "{}", program.name());
+    };
+    let turn = |table: &mut Vec<u32>| {
+        Program::ALL.map(|program| best_used(RUNS, table, |table| table.fill(0), |table| read(program, table)))
+    };
+    let times = (0..TURNS).fold([Duration::MAX; 3], |times, _| shorter(times, turn(&mut table)));
+    Line { items: elements, bytes: info.bytes.len(), times }
 }

@@ -1,10 +1,14 @@
-//! The audit of one file by the proved library and by the model.
+//! The audit of one file by the proved library, by the fast program and by the model.
 
 use super::table::{dump, Table};
 use super::{answer_of, small_copy, Tally};
-use crate::ffi;
+use crate::fast;
+use crate::ffi::{self, Answer};
 use crate::model::audit::{self, Row};
-use crate::model::{rules, Answer};
+use crate::model::rules;
+
+/// An audit of the file at hand into three tables.
+type Run<'a> = &'a dyn Fn([&mut [u32]; 3]) -> Answer;
 
 /// Audits with tables of these lengths. The answer, and the rows of a pass.
 pub fn audit(tally: &mut Tally, file: &[u8], lengths: [usize; 3]) -> (Answer, Vec<Row>) {
@@ -13,23 +17,36 @@ pub fn audit(tally: &mut Tally, file: &[u8], lengths: [usize; 3]) -> (Answer, Ve
     let copy = small_copy(file);
     let garbage = tally.garbage();
     let fill = [garbage as u32, 100, u32::MAX, 7][tally.inputs as usize % 4];
-    let mut tables = lengths.map(|len| Table::new(len, fill, garbage as u32));
-    let got =
-        answer_of(garbage, |place, count| ffi::audit::audit(file, tables.each_mut().map(Table::lent), place, count));
+    let library =
+        |tables: [&mut [u32]; 3]| answer_of(garbage, |place, count| ffi::audit::audit(file, tables, place, count));
+    let fast = |tables: [&mut [u32]; 3]| fast::audit::audit(file, tables);
+    let programs: [(&str, Run); 2] = [("library", &library), ("fast program", &fast)];
+    for (program, run) in programs {
+        let mut tables = lengths.map(|len| Table::new(len, fill, garbage as u32));
+        let got = run(tables.each_mut().map(Table::lent));
+        expect(program, file, (got, tables), (answer, &rows));
+    }
+    assert!(copy.is_none_or(|copy| copy == file), "the audit changed the file");
+    tally.add(answer.number);
+    (answer, rows)
+}
+
+/// Fails unless a program answered and wrote what the model has.
+fn expect(program: &str, file: &[u8], got: (Answer, [Table; 3]), model: (Answer, &[Row])) {
+    let (got, mut tables) = got;
+    let (answer, rows) = model;
     let [start, part, owner] = &mut tables;
     let rows_hold = start.holds(rows.iter().map(|row| row.start))
         && part.holds(rows.iter().map(|row| row.part))
         && owner.holds(rows.iter().map(|row| row.owner));
     if got != answer || !rows_hold {
+        let lengths = tables.each_mut().map(|table| table.lent().len());
         let tables = tables.each_mut().map(|table| table.lent().iter().take(40).copied().collect::<Vec<_>>());
         panic!(
-            "audit with tables of {lengths:?}\n library {got:?} {tables:?}\n   model {answer:?} {rows:?}\n{}",
+            "audit with tables of {lengths:?}\n {program} {got:?} {tables:?}\n   model {answer:?} {rows:?}\n{}",
             dump(file)
         );
     }
-    assert!(copy.is_none_or(|copy| copy == file), "the audit changed the file");
-    tally.add(got.number);
-    (got, rows)
 }
 
 /// Audits with tables that have room for every piece, the shortest of them `more` than needed.

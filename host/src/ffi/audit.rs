@@ -1,5 +1,7 @@
 //! The audit.
 
+use super::Answer;
+
 mod c {
     extern "C" {
         pub fn rootmap_audit(
@@ -35,4 +37,11 @@ pub fn audit(file: &[u8], tables: [&mut [u32]; 3], place: &mut u64, count: &mut 
             count,
         )
     }
+}
+
+/// The same, and all that it answers as one value.
+pub fn answer(file: &[u8], tables: [&mut [u32]; 3]) -> Answer {
+    let (mut place, mut count) = (0, 0);
+    let number = audit(file, tables, &mut place, &mut count);
+    Answer { number, place, count }
 }

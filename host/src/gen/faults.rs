@@ -3,7 +3,7 @@
 
 use super::files::{counted, keys, segment_bytes, Built, Item, Plan, Role};
 use super::Rng;
-use crate::model::number;
+use crate::ffi::number;
 
 /// What a fault is done to: indices of a plan's pieces.
 #[derive(Clone, Copy, Debug)]

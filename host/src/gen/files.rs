@@ -1,7 +1,8 @@
 //! Whole files: a plan of pieces, and the bytes that it gives. A random plan gives a valid file.
 
 use super::{string_length, RawKey, Rng};
-use crate::model::audit::{part, Row, BEGIN, FREE_END};
+use crate::ffi::part;
+use crate::model::audit::{Row, BEGIN, FREE_END};
 
 /// What a piece is for. A directory is named by its index in the plan; the head is 0.
 #[derive(Clone, Copy, Debug, PartialEq, Eq)]

@@ -290,3 +290,14 @@ impl Builder<'_> {
         }
     }
 }
+
+/// Elements to a class in a record of the benchmarks.
+const EACH: usize = 20;
+
+/// A record of the benchmarks at 0: so many elements, a multiple of 20, of all ten kinds in turn.
+pub fn of_elements(elements: usize) -> Info {
+    let mut rng = Rng::new(elements as u64);
+    let kinds: Vec<usize> = (0..EACH).map(|nth| 1 + nth % KINDS.len()).collect();
+    let classes: Vec<Class> = (0..elements / EACH).map(|_| class(&mut rng, &kinds)).collect();
+    build(&mut rng, 0, &classes, None)
+}

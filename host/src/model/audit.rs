@@ -6,6 +6,8 @@ use super::{number, Answer};
 use std::collections::BTreeMap;
 use std::ops::Range;
 
+pub use crate::ffi::part;
+
 /// The bytes before the first piece, and the place of the head.
 pub const BEGIN: usize = 100;
 /// The greatest END.
@@ -16,19 +18,6 @@ pub const FREE_END: u32 = 2_000_000_000;
 const MOST_VERSION: u16 = 1000;
 /// The bytes of a free segment.
 const SEGMENT: u64 = 10;
-
-/// What a piece is.
-pub mod part {
-    pub const GAP: u32 = 0;
-    pub const HEAD: u32 = 1;
-    pub const FREE: u32 = 2;
-    pub const INFO: u32 = 3;
-    pub const KEYS: u32 = 4;
-    pub const LISTED: u32 = 5;
-    pub const DIR: u32 = 6;
-    pub const UNLISTED: u32 = 7;
-    pub const NAMES: [&str; 8] = ["gap", "head", "free", "info", "keys", "listed", "dir", "unlisted"];
-}
 
 /// A row of the three tables.
 #[derive(Clone, Copy, Debug, PartialEq, Eq)]

@@ -1,7 +1,8 @@
 //! The rules for a pass as statements over the bytes, the partition (document 01: cut) and an assignment (giving). They are checked for
 //! every set of directories that could be, without any order: slow, and for small files only.
 
-use super::audit::{part, Row};
+use super::audit::Row;
+use crate::ffi::part;
 use std::collections::{HashMap, HashSet};
 
 /// Sets of more directories than this are not tried.
@@ -148,7 +149,10 @@ impl<'a> Rules<'a> {
     /// The head, and the records of class TDirectory.
     fn could_be_directories(&self) -> impl Iterator<Item = usize> + '_ {
         let is_directory = |key: Key| key.class == b"TDirectory";
-        self.partition.iter().map(|&(at, _)| at).filter(move |&at| at == 100 || self.record(at).is_some_and(is_directory))
+        self.partition
+            .iter()
+            .map(|&(at, _)| at)
+            .filter(move |&at| at == 100 || self.record(at).is_some_and(is_directory))
     }
 
     /// After the head's two strings.

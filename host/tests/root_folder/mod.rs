@@ -1,26 +1,39 @@
 //! Files written by ROOT. They are not part of the repository: ROOT_FILES names their folder.
 
-use kirovadzun_host::model::Answer;
+use kirovadzun_host::ffi::Answer;
 use std::path::{Path, PathBuf};
 use std::{env, fs};
 
-/// What the audit answers for some of them, while only four-byte offsets are read.
-const KNOWN: [(&str, Answer); 3] = [
+/// What is answered for some of them, by the audit while only four-byte offsets are read, and by the info reader
+/// while no option stands after an object of a list.
+const KNOWN: [(&str, Answer); 4] = [
+    ("basic_lz4.info", Answer { number: 21, place: 418, count: 0 }),
     ("advanced_zlib.root", Answer { number: 6, place: 2800, count: 0 }),
     ("basic_lz4.root", Answer { number: 0, place: 0, count: 9 }),
     ("broken_basic.root", Answer { number: 4, place: 0, count: 0 }),
 ];
 
 /// The *.root files, in the order of their names. None, and a word about it, if there is no folder.
+#[allow(dead_code)]
 pub fn root_files() -> Option<Vec<PathBuf>> {
+    files_of("root")
+}
+
+/// The same of the *.info files: StreamerInfo records at place 0, unpacked.
+#[allow(dead_code)]
+pub fn info_files() -> Option<Vec<PathBuf>> {
+    files_of("info")
+}
+
+fn files_of(kind: &str) -> Option<Vec<PathBuf>> {
     let Some(folder) = env::var_os("ROOT_FILES").map(PathBuf::from) else {
-        println!("skipped: ROOT_FILES names no folder of *.root files");
+        println!("skipped: ROOT_FILES names no folder of *.{kind} files");
         return None;
     };
     let mut paths: Vec<PathBuf> = fs::read_dir(&folder).unwrap().map(|entry| entry.unwrap().path()).collect();
-    paths.retain(|path| path.extension().is_some_and(|extension| extension == "root"));
+    paths.retain(|path| path.extension().is_some_and(|extension| extension == kind));
     paths.sort();
-    assert!(!paths.is_empty(), "no *.root file in {folder:?}");
+    assert!(!paths.is_empty(), "no *.{kind} file in {folder:?}");
     Some(paths)
 }
 

@@ -1,0 +1,56 @@
+//! One program, once, on one file: for counting its instructions, as `host/run-counts` does.
+//!
+//!     bench_once make WHAT ITEMS FILE
+//!     bench_once run PROGRAM WHAT ITEMS FILE
+//!
+//! WHAT is a shape of file or `info`, a StreamerInfo record; ITEMS are its pieces or elements. PROGRAM is library,
+//! second, fast, or none, which only reads the file.
+
+use kirovadzun_host::ffi::Answer;
+use kirovadzun_host::gen::{infos, shapes};
+use kirovadzun_host::programs::Program;
+use std::{env, fs, process};
+
+const INFO: &str = "info";
+
+fn main() {
+    let arguments: Vec<String> = env::args().skip(1).collect();
+    let arguments: Vec<&str> = arguments.iter().map(String::as_str).collect();
+    let done = match arguments[..] {
+        ["make", what, items, path] => number(items).and_then(|items| make(what, items, path)),
+        ["run", program, what, items, path] => number(items).and_then(|items| run(program, what, items, path)),
+        _ => Err("make WHAT ITEMS FILE, or run PROGRAM WHAT ITEMS FILE".into()),
+    };
+    if let Err(message) = done {
+        eprintln!("bench_once: {message}");
+        process::exit(2);
+    }
+}
+
+fn number(text: &str) -> Result<usize, String> {
+    text.parse().map_err(|_| format!("{text} is no number"))
+}
+
+fn make(what: &str, items: usize, path: &str) -> Result<(), String> {
+    let bytes = match shapes::ALL.iter().find(|shape| shape.name == what) {
+        Some(shape) => (shape.plan)(items).build().bytes,
+        None if what == INFO => infos::of_elements(items).bytes,
+        None => return Err(format!("no shape {what}")),
+    };
+    fs::write(path, bytes).map_err(|error| format!("{path}: {error}"))
+}
+
+fn run(program: &str, what: &str, items: usize, path: &str) -> Result<(), String> {
+    let file = fs::read(path).map_err(|error| format!("{path}: {error}"))?;
+    let Some(program) = Program::ALL.into_iter().find(|known| known.name() == program) else {
+        return if program == "none" { Ok(()) } else { Err(format!("no program {program}")) };
+    };
+    let answer = if what == INFO {
+        program.read_info(&file, &mut vec![0; 6 * items])
+    } else {
+        let mut tables = [0; 3].map(|_| vec![0; items]);
+        program.audit(&file, tables.each_mut().map(Vec::as_mut_slice))
+    };
+    let expected = Answer::success(items as u64);
+    (answer == expected).then_some(()).ok_or_else(|| format!("{path}: {answer:?}"))
+}

@@ -1,0 +1,95 @@
+//! Key headers and pieces.
+
+use crate::ffi::number;
+
+/// The bytes of a key header before its strings.
+pub const FIXED: usize = 26;
+/// The least KeyLen: three empty strings.
+pub const LEAST_KEY: usize = FIXED + 3;
+const LEAST_PIECE: usize = 4;
+const MOST_VERSION: u16 = 1000;
+const MOST_BYTES: u32 = i32::MAX as u32;
+
+#[inline(always)]
+pub fn be16<const N: usize>(bytes: &[u8; N], at: usize) -> u16 {
+    u16::from_be_bytes([bytes[at], bytes[at + 1]])
+}
+
+#[inline(always)]
+pub fn be32<const N: usize>(bytes: &[u8; N], at: usize) -> u32 {
+    u32::from_be_bytes([bytes[at], bytes[at + 1], bytes[at + 2], bytes[at + 3]])
+}
+
+/// A well-formed key header.
+pub struct Key<'a> {
+    pub seek_key: u32,
+    pub keylen: usize,
+    pub plain: bool,
+    pub unpacked: bool,
+    pub class: &'a [u8],
+    pub name: &'a [u8],
+}
+
+impl<'a> Key<'a> {
+    /// The header that these bytes begin with, read within them.
+    #[inline]
+    pub fn read(bytes: &'a [u8]) -> Option<Self> {
+        let (fixed, strings) = bytes.split_first_chunk::<FIXED>()?;
+        let (class, rest) = string(strings)?;
+        let (name, rest) = string(rest)?;
+        let (_title, rest) = string(rest)?;
+        let sum = bytes.len() - rest.len();
+        let [nbytes, objlen] = [be32(fixed, 0), be32(fixed, 6)];
+        let keylen = be16(fixed, 14);
+        let well_formed = (1..=MOST_VERSION).contains(&be16(fixed, 4))
+            && objlen <= MOST_BYTES
+            && nbytes <= MOST_BYTES
+            && sum <= usize::from(keylen)
+            && u32::from(keylen) <= nbytes;
+        if !well_formed {
+            return None;
+        }
+        Some(Key {
+            seek_key: be32(fixed, 18),
+            keylen: keylen.into(),
+            plain: sum == usize::from(keylen),
+            unpacked: objlen == nbytes - u32::from(keylen),
+            class,
+            name,
+        })
+    }
+}
+
+/// A length byte and as many bytes, and what follows them.
+#[inline]
+pub fn string(bytes: &[u8]) -> Option<(&[u8], &[u8])> {
+    match bytes.split_first()? {
+        (255, _) => None,
+        (&len, rest) => rest.split_at_checked(len.into()),
+    }
+}
+
+/// What stands at a place. A record has its bytes and its key.
+pub enum Piece<'a> {
+    Gap(usize),
+    Record(&'a [u8], Key<'a>),
+}
+
+/// The piece at `at`, or the number of the refusal.
+#[inline]
+pub fn piece(file: &[u8], at: usize) -> Result<Piece<'_>, u64> {
+    let rest = file.get(at..).unwrap_or_default();
+    let n = i32::from_be_bytes(*rest.first_chunk().ok_or(number::CHAIN)?);
+    let size = n.unsigned_abs() as usize;
+    if size < LEAST_PIECE || size > rest.len() {
+        return Err(number::CHAIN);
+    }
+    if n < 0 {
+        return Ok(Piece::Gap(size));
+    }
+    let record = &rest[..size];
+    match Key::read(record) {
+        Some(key) if key.seek_key as usize == at => Ok(Piece::Record(record, key)),
+        _ => Err(number::KEY),
+    }
+}

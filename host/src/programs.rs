@@ -1,0 +1,41 @@
+//! The programs that the benchmarks compare, each called in the same way.
+
+use crate::ffi::{self, Answer};
+use crate::{fast, model};
+use std::hint::black_box;
+
+#[derive(Clone, Copy, Debug, PartialEq, Eq)]
+pub enum Program {
+    /// The proved library through the C call.
+    Library,
+    /// The second program.
+    Second,
+    /// The fast program.
+    Fast,
+}
+
+impl Program {
+    pub const ALL: [Program; 3] = [Program::Library, Program::Second, Program::Fast];
+
+    pub fn name(self) -> &'static str {
+        ["library", "second", "fast"][self as usize]
+    }
+
+    /// Audits a file. The second program has rows of its own, the others write the tables start, part and owner.
+    pub fn audit(self, file: &[u8], tables: [&mut [u32]; 3]) -> Answer {
+        match self {
+            Program::Library => ffi::audit::answer(file, tables),
+            Program::Second => black_box(model::audit::audit(file, tables[0].len())).0,
+            Program::Fast => fast::audit::audit(file, tables),
+        }
+    }
+
+    /// Reads the StreamerInfo record at 0.
+    pub fn read_info(self, file: &[u8], table: &mut [u32]) -> Answer {
+        match self {
+            Program::Library => ffi::info::answer(file, 0, table),
+            Program::Second => black_box(model::streamer::read_info(file, 0, table.len())).0,
+            Program::Fast => fast::info::read_info(file, 0, table),
+        }
+    }
+}

@@ -1,0 +1,212 @@
+//! The ends of objects in StreamerInfo records: every ByteCount at every byte, and the bits of each.
+
+mod zeros;
+
+use kirovadzun_host::compare::info::read_info;
+use kirovadzun_host::compare::Tally;
+use kirovadzun_host::ffi::{number, Answer};
+use kirovadzun_host::gen::infos::{all_kinds, build, Field, Info, What};
+use kirovadzun_host::gen::{RawKey, Rng};
+use kirovadzun_host::model::streamer::COUNT_MASK;
+use zeros::Zeros;
+
+/// Where the list's ByteCount stands in a record.
+const LIST: usize = 64;
+/// List, TStreamerInfo and TObjArray, an element, its TStreamerElement and its TNamed. All but the list and the
+/// last two have two ByteCounts.
+const DEEPEST: usize = 9;
+const ROOM: usize = 120;
+
+/// An object: where its ByteCount stands, and where it ends.
+#[derive(Clone, Copy, Debug)]
+struct Object {
+    at: usize,
+    end: usize,
+}
+
+fn get32(bytes: &[u8], at: usize) -> u32 {
+    u32::from_be_bytes(bytes[at..at + 4].try_into().unwrap())
+}
+
+fn put32(bytes: &mut [u8], at: usize, number: u32) {
+    bytes[at..at + 4].copy_from_slice(&number.to_be_bytes());
+}
+
+/// The objects of a valid record, outer ones before what they hold.
+fn objects(info: &Info) -> Vec<Object> {
+    let counts = info.fields.iter().filter(|field| field.what == What::ByteCount);
+    let end = |at: usize| at + 4 + (get32(&info.bytes, at) ^ COUNT_MASK) as usize;
+    counts.map(|field| Object { at: field.at, end: end(field.at) }).collect()
+}
+
+/// Those that are open at a field, the innermost last.
+fn open_at(objects: &[Object], field: &Field) -> Vec<Object> {
+    objects.iter().filter(|object| object.at < field.at && field.at < object.end).copied().collect()
+}
+
+/// A record with all ten kinds at a place of a file.
+struct Sample {
+    at: usize,
+    info: Info,
+    objects: Vec<Object>,
+}
+
+impl Sample {
+    fn new(seed: u64, at: usize) -> Self {
+        let mut rng = Rng::new(seed);
+        let classes = all_kinds(&mut rng);
+        let info = build(&mut rng, at as u32, &classes, None);
+        Sample { at, objects: objects(&info), info }
+    }
+
+    /// Lets these objects end at `end` of the record. It is cut there if the list is among them.
+    fn ending(&self, objects: &[Object], end: usize) -> Vec<u8> {
+        let mut record = self.info.bytes.clone();
+        for object in objects {
+            put32(&mut record, object.at, COUNT_MASK + (end - object.at - 4) as u32);
+        }
+        if objects[0].at == LIST {
+            record.truncate(end);
+            put32(&mut record, 0, end as u32);
+            put32(&mut record, 6, (end - LIST) as u32);
+        }
+        record
+    }
+
+    /// The record is 21 at this offset.
+    fn refused(&self, tally: &mut Tally, record: &[u8], offset: usize, what: &dyn Fn() -> String) {
+        let file = [&vec![7; self.at], record].concat();
+        let (answer, _) = read_info(tally, &file, self.at as u64, ROOM);
+        assert_eq!(answer, Answer::refusal(number::COUNT, (self.at + offset) as u64), "{}", what());
+    }
+}
+
+fn samples() -> [Sample; 2] {
+    [Sample::new(230, 0), Sample::new(231, 100)]
+}
+
+/// The innermost open object ends at a byte, then the two innermost, and so on up to the list: the field that
+/// holds the byte is at fault.
+#[test]
+fn at_every_byte() {
+    let mut tally = Tally::new("read_info, open ByteCounts that end at each byte");
+    let mut deepest = 0;
+    for sample in samples() {
+        for field in sample.info.fields.iter().filter(|field| field.at > LIST) {
+            let open = open_at(&sample.objects, field);
+            deepest = deepest.max(open.len());
+            for end in field.at..field.at + field.len {
+                for outer in 0..open.len() {
+                    let record = sample.ending(&open[outer..], end);
+                    sample
+                        .refused(&mut tally, &record, field.at, &|| format!("{field:?}, end {end}, {:?}", open[outer]));
+                }
+            }
+        }
+    }
+    assert_eq!(deepest, DEEPEST);
+    tally.finish(10_000, &[number::COUNT]);
+}
+
+/// One open object ends at a byte: at fault is the next one in, which ends past it, or the field that holds the
+/// byte. The list must fill the data, so it is at fault itself.
+#[test]
+fn one_at_every_byte() {
+    let mut tally = Tally::new("read_info, one ByteCount that ends at each byte");
+    for sample in samples() {
+        for field in sample.info.fields.iter().filter(|field| field.at > LIST) {
+            let open = open_at(&sample.objects, field);
+            for end in field.at..field.at + field.len {
+                for (nth, object) in open.iter().enumerate() {
+                    let mut record = sample.info.bytes.clone();
+                    put32(&mut record, object.at, COUNT_MASK + (end - object.at - 4) as u32);
+                    let inner = open.get(nth + 1).map_or(field.at, |inner| inner.at);
+                    let fault = if object.at == LIST { LIST } else { inner };
+                    sample.refused(&mut tally, &record, fault, &|| format!("{field:?}, end {end}, {object:?}"));
+                }
+            }
+        }
+    }
+    tally.finish(10_000, &[number::COUNT]);
+}
+
+/// An object that ends later than what it holds is at fault where that ends; past the next one up, at its ByteCount.
+#[test]
+fn later() {
+    let mut tally = Tally::new("read_info, ByteCounts that end later");
+    for sample in samples() {
+        for object in &sample.objects {
+            let field = sample.info.fields.iter().find(|field| field.at == object.at).unwrap();
+            for end in object.end + 1..=field.end + 9 {
+                let mut record = sample.info.bytes.clone();
+                put32(&mut record, object.at, COUNT_MASK + (end - object.at - 4) as u32);
+                let fault = if end <= field.end { object.end } else { object.at };
+                sample.refused(&mut tally, &record, fault, &|| format!("{object:?} ends at {end}"));
+            }
+        }
+    }
+    tally.finish(10_000, &[number::COUNT]);
+}
+
+/// Only bit 30 set and bit 31 clear are good, at every nesting, whatever the rest counts.
+#[test]
+fn bits() {
+    let mut tally = Tally::new("read_info, bits of each ByteCount");
+    for sample in samples() {
+        let right =
+            read_info(&mut tally, &[&vec![7; sample.at], &sample.info.bytes[..]].concat(), sample.at as u64, ROOM);
+        assert_eq!(right.0, Answer::success(16));
+        for object in &sample.objects {
+            let count = get32(&sample.info.bytes, object.at) ^ COUNT_MASK;
+            let left = (sample.info.bytes.len() - object.at - 4) as u32;
+            for bits in [0, 2, 3] {
+                for count in [count, count - 1, count + 1, 0, 4, left, COUNT_MASK - 1] {
+                    let mut record = sample.info.bytes.clone();
+                    put32(&mut record, object.at, bits << 30 | count);
+                    sample.refused(&mut tally, &record, object.at, &|| format!("{object:?}, bits {bits}, {count}"));
+                }
+            }
+        }
+    }
+    tally.finish(1_000, &[0, number::COUNT]);
+}
+
+/// A record whose data are a list's ByteCount and zeros.
+fn put_list(zeros: &mut Zeros, data: usize, count: u32) -> usize {
+    let strings = ["TList", "StreamerInfo", "Doubly linked list"].map(|string| string.as_bytes().to_vec());
+    let [nbytes, objlen] = [LIST + data, data].map(|n| n as u32);
+    let rest =
+        RawKey { nbytes, version: 4, objlen, datime: 0, keylen: 64, cycle: 1, seek_key: 0, seek_pdir: 100, strings };
+    zeros.put(0, &rest.header());
+    zeros.put(LIST, &count.to_be_bytes());
+    LIST + data
+}
+
+/// So much data that a count whose bits are wrong fills them: the list is at fault there. A list whose count is
+/// right and that holds nothing is at fault where it stops, after its Version, TObject, name and number.
+#[test]
+fn more_data_than_a_count_can_say() {
+    let Some(mut zeros) = Zeros::new() else { return };
+    let mut tally = Tally::new("read_info, 2^30 bytes of data and more");
+    const MOST: usize = 1 << 30;
+    let stopped = LIST + 4 + 2 + 10 + 1 + 4;
+    for (data, count, fault) in [
+        (MOST + 4, 0, LIST),
+        (MOST + 4, 1 << 31, LIST),
+        (MOST + 4, 3 << 30, LIST),
+        (MOST + 4, COUNT_MASK, LIST),
+        (MOST + 5, 1, LIST),
+        (MOST + 5, 1 << 31 | 1, LIST),
+        (MOST + 25, 21, LIST),
+        (i32::MAX as usize - LIST, i32::MAX as u32 - LIST as u32 - 4, LIST),
+        (MOST + 3, u32::MAX, LIST),
+        (MOST + 3, MOST as u32 - 1, LIST),
+        (MOST + 3, COUNT_MASK | (MOST as u32 - 2), LIST),
+        (MOST + 3, COUNT_MASK | (MOST as u32 - 1), stopped),
+    ] {
+        let len = put_list(&mut zeros, data, count);
+        let (answer, _) = read_info(&mut tally, &zeros.bytes()[..len], 0, ROOM);
+        assert_eq!(answer, Answer::refusal(number::COUNT, fault as u64), "{data} bytes, ByteCount {count:#x}");
+    }
+    tally.finish(12, &[number::COUNT]);
+}
