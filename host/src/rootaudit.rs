@@ -14,7 +14,7 @@
 //! The audit is a parameter, so that the tests can put another in its place.
 
 use crate::ffi;
-use crate::model::Answer;
+use crate::ffi::Answer;
 use finding::Finding;
 use options::{Options, Request};
 use std::ffi::{OsStr, OsString};

@@ -4,7 +4,7 @@ use super::escape;
 use super::pieces::{self, Piece};
 use super::verdict::Verdict;
 use super::words;
-use crate::model::Answer;
+use crate::ffi::Answer;
 use std::ffi::OsStr;
 use std::io::{self, Write};
 

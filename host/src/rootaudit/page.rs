@@ -8,7 +8,7 @@ use super::pieces::{self, Piece};
 use super::verdict::Verdict;
 use super::words::{self, grouped};
 use super::{escape, version};
-use crate::model::number;
+use crate::ffi::number;
 use std::ffi::OsStr;
 use std::fs::{File, OpenOptions};
 use std::io::{self, Write};

@@ -2,7 +2,7 @@
 
 use super::verdict::Tables;
 use crate::ffi;
-use crate::model::audit::part;
+use crate::ffi::part;
 
 /// Where the first piece of a file stands.
 pub const BEGIN: u64 = 100;

@@ -1,7 +1,7 @@
 //! The audit of one file, with tables of the size that it needs.
 
 use super::{Audit, FAILED, PASSED, REFUSED};
-use crate::model::{number, Answer};
+use crate::ffi::{number, Answer};
 
 /// What became of a file.
 #[derive(Debug, PartialEq, Eq)]

@@ -4,7 +4,7 @@ use super::escape;
 use super::pieces::{self, Piece};
 use super::verdict::Verdict;
 use crate::model::bytes::Cursor;
-use crate::model::{number, Answer};
+use crate::ffi::{number, Answer};
 use std::ffi::OsStr;
 use std::io::{self, Write};
 use std::ops::RangeInclusive;

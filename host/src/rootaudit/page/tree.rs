@@ -3,7 +3,7 @@
 use super::super::pieces::{key_at, Piece};
 use super::super::words::grouped;
 use super::{name_of, Subject};
-use crate::model::audit::part;
+use crate::ffi::part;
 use crate::rootaudit::verdict::Verdict;
 use std::io::{self, Write};
 
