@@ -3,10 +3,12 @@ use Prim.Native.Nat.{ℕ, _+_}
 use mathlib.Core.List.{List, [], _∷_}
 use lib.Dec.{eqb}
 use lib.ListN.{length, getD}
+use Rattle.wire.specs.Answer.{done, refusal}
 use Rattle.wire.specs.Check.{Check, le, eq, yes, all, pick}
 use Rattle.wire.specs.Layout.{offsetWidth, extent, valuesAt}
 use Rattle.wire.specs.Name.{tFile}
 use Rattle.wire.specs.Text.{textIn, onText}
+use Rattle.wire.specs.declared.Answer.{Answer}
 use Rattle.key.specs.Header.{unpackedData}
 use Rattle.key.specs.Piece.{pieceAt, onRecord}
 use Rattle.key.specs.declared.header.Key.{Key}
@@ -87,3 +89,12 @@ dirOf s h p parent = pick (eqb p 100) (headIn s (h .nbytesname)) (subIn s p pare
 -- Keys list: SeekKeys and NbytesKeys both 0 (an empty directory)
 abbrev pub noKeys : DirHead → List Check
 noKeys dh = eq (dh .seekkeys) 0 ∷ eq (dh .nbyteskeys) 0 ∷ []
+
+-- number, place and count of each case: the head rule's refusal is 8 at 100, a subdirectory's 11 at the directory
+abbrev pub headAnswer : Dir → Answer
+headAnswer (Held d) = done 0
+headAnswer Bad = refusal 8 100
+
+abbrev pub subAnswer : ℕ → Dir → Answer
+subAnswer p (Held d) = done 0
+subAnswer p Bad = refusal 11 p

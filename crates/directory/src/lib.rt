@@ -1,7 +1,8 @@
 // Directory headers (document 003), and the head's. Every public function takes any input and has no precondition.
 ghost use mathlib.Core.Path.{_≡_};
+ghost use Rattle.wire.specs.Answer.{Gives};
 ghost use Rattle.wire.specs.Lent.{before};
-ghost use Rattle.directory.specs.Dir.{dirIn, headDirIn, headIn, subIn};
+ghost use Rattle.directory.specs.Dir.{dirIn, headDirIn, headIn, headAnswer, subIn, subAnswer};
 use key::piece::Piece;
 use key::piece::read_piece;
 use record::is_file;
@@ -82,7 +83,7 @@ fn head_dir(s: &[u8], at: usize, end: usize, nbytesname: u32) -> Dir
 
 // The head: a plain unpacked record of class TFile at 100, and its directory header.
 pub fn read_head(file: &[u8], nbytesname: u32) -> Dir
-    ensures { λ r. ⌜ r ≡ headIn (before file) nbytesname ⌝ }
+    ensures { λ r. ⌜ Gives headAnswer r (headIn (before file) nbytesname) ⌝ }
 {
     let Piece::Record(k) = read_piece(file, 100) else {
         return Dir::Bad;
@@ -103,7 +104,7 @@ pub fn read_head(file: &[u8], nbytesname: u32) -> Dir
 
 // A subdirectory's header, which follows its key, for a listing directory.
 pub fn read_sub(file: &[u8], at: usize, parent: usize) -> Dir
-    ensures { λ r. ⌜ r ≡ subIn (before file) at parent ⌝ }
+    ensures { λ r. ⌜ Gives (subAnswer at) r (subIn (before file) at parent) ⌝ }
 {
     let Piece::Record(k) = read_piece(file, at) else {
         return Dir::Bad;

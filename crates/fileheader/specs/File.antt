@@ -2,8 +2,10 @@
 use Prim.Native.Nat.{ℕ}
 use mathlib.Core.List.{List, [], _∷_}
 use lib.ListN.{length, getD}
+use Rattle.wire.specs.Answer.{done, refusal}
 use Rattle.wire.specs.Check.{Check, le, lt, eq, all, pick}
 use Rattle.wire.specs.Layout.{offsetWidth, valuesAt}
+use Rattle.wire.specs.declared.Answer.{Answer}
 use Rattle.fileheader.specs.declared.FileHead.{FileHead}
 use Rattle.fileheader.specs.declared.Opened.{Opened}
 use Rattle.fileheader.specs.declared.Opened.the-variants.{Good, Refused}
@@ -50,3 +52,8 @@ openedAs s =
     (pick (all (narrow s)) (pick (all (bounds s)) (Good (fileHead s)) (Refused 4)) (Refused 3))
     (Refused 2))
     (Refused 1)
+
+-- number, place and count of each case: 1 to 4 are at 0
+abbrev pub openAnswer : Opened → Answer
+openAnswer (Good h) = done 0
+openAnswer (Refused c) = refusal c 0

@@ -1,7 +1,7 @@
 // The file header: its first 100 bytes.
-ghost use mathlib.Core.Path.{_≡_};
+ghost use Rattle.wire.specs.Answer.{Gives};
 ghost use Rattle.wire.specs.Lent.{before};
-ghost use Rattle.fileheader.specs.File.{openedAs};
+ghost use Rattle.fileheader.specs.File.{openedAs, openAnswer};
 use wire::number::be32;
 
 // What the audit needs of a good header.
@@ -21,7 +21,7 @@ pub enum Opened {
 
 // The header of a whole file, or 1 to 4.
 pub fn open(file: &[u8]) -> Opened
-    ensures { λ r. ⌜ r ≡ openedAs (before file) ⌝ }
+    ensures { λ r. ⌜ Gives openAnswer r (openedAs (before file)) ⌝ }
 {
     let end = file.len();
     if end < 100 {

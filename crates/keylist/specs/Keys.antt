@@ -3,8 +3,10 @@
 use Prim.Native.Nat.{ℕ, _+_}
 use mathlib.Core.Bool.{Bool, false, _||_}
 use mathlib.Core.List.{List, [], _∷_}
+use Rattle.wire.specs.Answer.{done, refusal, Gives}
 use Rattle.wire.specs.Check.{Check, eq, yes, all, pick}
 use Rattle.wire.specs.Name.{tFile, tDirectory}
+use Rattle.wire.specs.declared.Answer.{Answer}
 use Rattle.wire.specs.declared.text.Text.{Text}
 use Rattle.key.specs.Header.{plain, headerIn}
 use Rattle.key.specs.Piece.{pieceAt, onRecord}
@@ -52,3 +54,21 @@ plainOr Bad = Bad
 
 unfoldable pub copyIn : List ℕ → ℕ → ℕ → Header
 copyIn s p end = plainOr (headerIn s p end)
+
+-- number, place and count of each case: the free list's refusal is 9 and a keys list's 12, both at the place that was asked for; a
+-- copy's is 12 at its list
+abbrev pub freeAnswer : ℕ → Data → Answer
+freeAnswer p (held.Held a end) = done 0
+freeAnswer p held.Bad = refusal 9 p
+
+abbrev pub listAnswer : ℕ → Data → Answer
+listAnswer p (held.Held a end) = done 0
+listAnswer p held.Bad = refusal 12 p
+
+abbrev pub copyAnswer : ℕ → Header → Answer
+copyAnswer list (Good k) = done 0
+copyAnswer list Bad = refusal 12 list
+
+-- what reading a copy promises, wherever its list stands
+abbrev pub GivesCopy : List ℕ → ℕ → ℕ → Header → Type 0
+GivesCopy s p end r = (list : ℕ) → Gives (copyAnswer list) r (copyIn s p end)

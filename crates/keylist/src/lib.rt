@@ -1,8 +1,9 @@
 // Records that the file header or a directory points to, and the header copies in a keys list. Every public function takes any
 // input and has no precondition.
 ghost use mathlib.Core.Path.{_≡_};
+ghost use Rattle.wire.specs.Answer.{Gives};
 ghost use Rattle.wire.specs.Lent.{before};
-ghost use Rattle.keylist.specs.Keys.{listClass, listIn, freeIn, infoIn, copyIn};
+ghost use Rattle.keylist.specs.Keys.{listClass, listIn, listAnswer, freeIn, freeAnswer, infoIn, GivesCopy};
 use key::header::Header;
 use key::header::read_header;
 use key::piece::Piece;
@@ -33,7 +34,7 @@ fn holds_keys(file: &[u8], class: Text) -> bool
 // The data of the keys list at a place: plain, unpacked, of class TFile or TDirectory, of this size, and its
 // SeekPdir is the directory's place.
 pub fn read_list(file: &[u8], at: usize, nbytes: u32, dir: usize) -> Data
-    ensures { λ r. ⌜ r ≡ listIn (before file) at nbytes dir ⌝ }
+    ensures { λ r. ⌜ Gives (listAnswer at) r (listIn (before file) at nbytes dir) ⌝ }
 {
     let Piece::Record(k) = read_piece(file, at) else {
         return Data::Bad;
@@ -55,7 +56,7 @@ pub fn read_list(file: &[u8], at: usize, nbytes: u32, dir: usize) -> Data
 
 // The data of the free list at a place: plain, unpacked, of class TFile, of this size.
 pub fn read_free(file: &[u8], at: usize, nbytes: u32) -> Data
-    ensures { λ r. ⌜ r ≡ freeIn (before file) at nbytes ⌝ }
+    ensures { λ r. ⌜ Gives (freeAnswer at) r (freeIn (before file) at nbytes) ⌝ }
 {
     let Piece::Record(k) = read_piece(file, at) else {
         return Data::Bad;
@@ -87,7 +88,7 @@ pub fn is_info(file: &[u8], at: usize, nbytes: u32) -> bool
 
 // The header copy at a place of a list, read within the list's end: well formed and plain, or bad.
 pub fn read_copy(file: &[u8], at: usize, end: usize) -> Header
-    ensures { λ r. ⌜ r ≡ copyIn (before file) at end ⌝ }
+    ensures { λ r. ⌜ GivesCopy (before file) at end r ⌝ }
 {
     let Header::Good(k) = read_header(file, at, end) else {
         return Header::Bad;

@@ -1,3 +1,4 @@
+use Rattle.wire.proofs.Answers.{gives}
 use native.Mathlib.Omega.{arith}
 use borrow.Author.Needs.{needs}
 use denote.Ref.{now}
@@ -33,24 +34,24 @@ refused c h = on-record _ _ (there c) (sym (not-picked (headRecord (now (start c
 
 returns : tie.Need-returns
 unfolding headIn
-returns c = on-other _ _ (c .before .read-piece .ensures .piece) (c .match .keys2)
+returns c = gives (on-other _ _ (c .before .read-piece .ensures .piece) (c .match .keys2))
 
 returns-2 : tie.Need-returns-2
 returns-2 c =
-    let k = c .before .before .before in
-    refused k (λ h. fails (plainRecord (key k)) (c .before .is-plain-record .ensures) (c .if1 .taken) (h .1))
+    gives (let k = c .before .before .before in
+    refused k (λ h. fails (plainRecord (key k)) (c .before .is-plain-record .ensures) (c .if1 .taken) (h .1)))
 
 returns-3 : tie.Need-returns-3
-returns-3 c = refused (c .before .before .before .before .before) (λ h. failed _ _ (c .before .is-file .ensures) (c .if2 .taken) (h .0))
+returns-3 c = gives (refused (c .before .before .before .before .before) (λ h. failed _ _ (c .before .is-file .ensures) (c .if2 .taken) (h .0)))
 
 returns-4 : tie.Need-returns-4
 unfolding headIn
 returns-4 c =
-    let t = c .before .before .before .before in
+    gives (let t = c .before .before .before .before in
     let k = t .before .before .before .before in
     let p = passes-all (plainRecord (key k)) (t .before .before .is-plain-record .ensures) (t .before .if1 .left) in
     let f = passed _ _ (t .is-file .ensures) (c .before .before .before .if2 .left) in
-    on-record _ _ (there k) (c .head-dir .ensures ∙ sym (picked (headRecord (now (start k .args .file)) (key k)) _ _ (f, p)))
+    on-record _ _ (there k) (c .head-dir .ensures ∙ sym (picked (headRecord (now (start k .args .file)) (key k)) _ _ (f, p))))
 
 pub read-head-spec : {M : Type 1} → statement M
 read-head-spec =

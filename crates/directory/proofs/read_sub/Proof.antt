@@ -1,3 +1,4 @@
+use Rattle.wire.proofs.Answers.{gives}
 use Prim.Native.Nat.{_+_, _<_, _≤_}
 use native.Mathlib.Omega.{arith}
 use borrow.Author.Needs.{needs}
@@ -55,14 +56,14 @@ refused c h = after-key (unpacked c) (not-kept _ (sym (c .before .before .read-d
 
 returns : tie.Need-returns
 unfolding subIn
-returns c = on-other _ _ (c .before .read-piece .ensures .piece) (c .match .keys2)
+returns c = gives (on-other _ _ (c .before .read-piece .ensures .piece) (c .match .keys2))
 
 returns-2 : tie.Need-returns-2
 unfolding subIn
 returns-2 c =
-    let k = c .before .before .before in
+    gives (let k = c .before .before .before in
     let u = unpackedData (key k) in
-    on-record _ _ (there k) (sym (not-picked u _ _ (fails u (c .before .is-unpacked .ensures) (c .if1 .taken))))
+    on-record _ _ (there k) (sym (not-picked u _ _ (fails u (c .before .is-unpacked .ensures) (c .if1 .taken)))))
 
 add-read-dir : tie.Need-add-read-dir
 add-read-dir c = let l = lies (back (c .before)) in omega arith
@@ -71,21 +72,21 @@ add-read-dir-2 : tie.Need-add-read-dir-2
 add-read-dir-2 c = let l = lies (back (c .before .before)) in omega arith
 
 returns-3 : tie.Need-returns-3
-returns-3 c = after-key (c .before .before .before .before .before) (none-kept _ (sym (c .before .before .read-dir .ensures) ∙ c .enum-told .given .1))
+returns-3 c = gives (after-key (c .before .before .before .before .before) (none-kept _ (sym (c .before .before .read-dir .ensures) ∙ c .enum-told .given .1)))
 
 returns-4 : tie.Need-returns-4
-returns-4 c = refused (c .before .before .before) (λ h. omega (arith, h))
+returns-4 c = gives (refused (c .before .before .before) (λ h. omega (arith, h)))
 
 returns-5 : tie.Need-returns-5
-returns-5 c = refused (c .before .before .before .before .before) (λ h. omega (arith, h))
+returns-5 c = gives (refused (c .before .before .before .before .before) (λ h. omega (arith, h)))
 
 returns-6 : tie.Need-returns-6
-returns-6 c = refused (c .before .before .before .before .before .before .before .before) (λ h. omega (arith, h))
+returns-6 c = gives (refused (c .before .before .before .before .before .before .before .before) (λ h. omega (arith, h)))
 
 returns-7 : tie.Need-returns-7
 returns-7 c =
-    let d = c .before .before .before .before .before .before .before .before in
-    after-key (unpacked d) (kept _ (sym (d .before .before .read-dir .ensures) ∙ d .d .given .1) (omega arith))
+    gives (let d = c .before .before .before .before .before .before .before .before in
+    after-key (unpacked d) (kept _ (sym (d .before .before .read-dir .ensures) ∙ d .d .given .1) (omega arith)))
 
 pub read-sub-spec : {M : Type 1} → statement M
 read-sub-spec =

@@ -1,3 +1,4 @@
+use Rattle.wire.proofs.Answers.{gives}
 use Prim.Native.Nat.{_+_, _<_, _≤_}
 use native.Mathlib.Omega.{arith}
 use borrow.Author.Needs.{needs}
@@ -29,17 +30,17 @@ lies c = let l = record-there _ _ (there c) in (omega arith, l .1)
 
 returns : tie.Need-returns
 unfolding freeIn dataIn
-returns c = on-other _ _ (c .before .read-piece .ensures .piece) (c .match .keys2)
+returns c = gives (on-other _ _ (c .before .read-piece .ensures .piece) (c .match .keys2))
 
 returns-2 : tie.Need-returns-2
 unfolding freeIn
-returns-2 c = no-data _ _ _ (there (c .before .before .before)) (λ h. omega (arith, h))
+returns-2 c = gives (no-data _ _ _ (there (c .before .before .before)) (λ h. omega (arith, h)))
 
 returns-3 : tie.Need-returns-3
 unfolding freeIn
 returns-3 c =
-    let t = c .before .before .before .before .before in
-    no-data _ _ _ (there t) (λ h. fails (plainRecord (key t)) (c .before .is-plain-record .ensures) (c .if2 .taken) (h .1 .1))
+    gives (let t = c .before .before .before .before .before in
+    no-data _ _ _ (there t) (λ h. fails (plainRecord (key t)) (c .before .is-plain-record .ensures) (c .if2 .taken) (h .1 .1)))
 
 -- from the last test back to the record
 abbrev tested : tie.After-is-file → tie.After-k
@@ -47,7 +48,7 @@ tested c = c .before .before .before .before .before .before
 
 returns-4 : tie.Need-returns-4
 unfolding freeIn
-returns-4 c = no-data _ _ _ (there (tested (c .before))) (λ h. failed _ _ (c .before .is-file .ensures) (c .if3 .taken) (h .0))
+returns-4 c = gives (no-data _ _ _ (there (tested (c .before))) (λ h. failed _ _ (c .before .is-file .ensures) (c .if3 .taken) (h .0)))
 
 add-t9 : tie.Need-add-t9
 add-t9 c = let l = lies (tested (c .before .before)) in omega arith
@@ -58,9 +59,9 @@ add-t11 c = let l = lies (tested (c .before .before .before)) in omega arith
 returns-5 : tie.Need-returns-5
 unfolding freeIn
 returns-5 c =
-    let t = c .before .before .before in
+    gives (let t = c .before .before .before in
     let w = passes-all (plainRecord (key (tested t))) (t .before .before .is-plain-record .ensures) (t .before .if2 .left) in
-    a-data _ _ _ (there (tested t)) (passed _ _ (t .is-file .ensures) (c .before .before .if3 .left), (omega arith, w))
+    a-data _ _ _ (there (tested t)) (passed _ _ (t .is-file .ensures) (c .before .before .if3 .left), (omega arith, w)))
 
 pub read-free-spec : {M : Type 1} → statement M
 read-free-spec =

@@ -1,3 +1,4 @@
+use Rattle.wire.proofs.Answers.{gives}
 use Prim.Native.Nat.{_+_, _<_, _≤_}
 use native.Mathlib.Omega.{arith}
 use borrow.Author.Needs.{needs}
@@ -29,21 +30,21 @@ lies c = let l = record-there _ _ (there c) in (omega arith, l .1)
 
 returns : tie.Need-returns
 unfolding listIn dataIn
-returns c = on-other _ _ (c .before .read-piece .ensures .piece) (c .match .keys2)
+returns c = gives (on-other _ _ (c .before .read-piece .ensures .piece) (c .match .keys2))
 
 returns-2 : tie.Need-returns-2
 unfolding listIn
-returns-2 c = no-data _ _ _ (there (c .before .before .before)) (λ h. omega (arith, h))
+returns-2 c = gives (no-data _ _ _ (there (c .before .before .before)) (λ h. omega (arith, h)))
 
 returns-3 : tie.Need-returns-3
 unfolding listIn
-returns-3 c = no-data _ _ _ (there (c .before .before .before .before .before)) (λ h. omega (arith, h))
+returns-3 c = gives (no-data _ _ _ (there (c .before .before .before .before .before)) (λ h. omega (arith, h)))
 
 returns-4 : tie.Need-returns-4
 unfolding listIn
 returns-4 c =
-    let t = c .before .before .before .before .before .before .before in
-    no-data _ _ _ (there t) (λ h. fails (plainRecord (key t)) (c .before .is-plain-record .ensures) (c .if3 .taken) (h .1 .1 .1))
+    gives (let t = c .before .before .before .before .before .before .before in
+    no-data _ _ _ (there t) (λ h. fails (plainRecord (key t)) (c .before .is-plain-record .ensures) (c .if3 .taken) (h .1 .1 .1)))
 
 -- from the last test back to the record
 abbrev tested : tie.After-holds-keys → tie.After-k
@@ -51,7 +52,7 @@ tested c = c .before .before .before .before .before .before .before .before
 
 returns-5 : tie.Need-returns-5
 unfolding listIn
-returns-5 c = no-data _ _ _ (there (tested (c .before))) (λ h. failed _ _ (c .before .holds-keys .ensures) (c .if4 .taken) (h .0))
+returns-5 c = gives (no-data _ _ _ (there (tested (c .before))) (λ h. failed _ _ (c .before .holds-keys .ensures) (c .if4 .taken) (h .0)))
 
 add-t11 : tie.Need-add-t11
 add-t11 c = let l = lies (tested (c .before .before)) in omega arith
@@ -62,9 +63,9 @@ add-t13 c = let l = lies (tested (c .before .before .before)) in omega arith
 returns-6 : tie.Need-returns-6
 unfolding listIn
 returns-6 c =
-    let t = c .before .before .before in
+    gives (let t = c .before .before .before in
     let w = passes-all (plainRecord (key (tested t))) (t .before .before .is-plain-record .ensures) (t .before .if3 .left) in
-    a-data _ _ _ (there (tested t)) (passed _ _ (t .holds-keys .ensures) (c .before .before .if4 .left), (omega arith, (omega arith, w)))
+    a-data _ _ _ (there (tested t)) (passed _ _ (t .holds-keys .ensures) (c .before .before .if4 .left), (omega arith, (omega arith, w))))
 
 pub read-list-spec : {M : Type 1} → statement M
 read-list-spec =
