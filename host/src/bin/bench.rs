@@ -2,7 +2,7 @@
 //! shapes; without any all are measured.
 
 use kirovadzun_host::gen::shapes::{self, Shape};
-use kirovadzun_host::model::audit::BEGIN;
+use kirovadzun_host::model::audit::{self, Row, BEGIN};
 use kirovadzun_host::programs::Program;
 use kirovadzun_host::timing::{best_used, is_long, print, print_bar, quotient, Line};
 use std::env;
@@ -57,9 +57,22 @@ struct Case {
 impl Case {
     fn new(shape: &Shape, pieces: usize) -> Self {
         let file = (shape.plan)(pieces).build().bytes;
-        let case = Case { file, tables: [0; 3].map(|_| vec![0; pieces]) };
+        let mut case = Case { file, tables: [0; 3].map(|_| vec![0; pieces]) };
         assert_eq!(case.walk(), pieces, "{}", shape.name);
+        case.check();
         case
+    }
+
+    /// All three give the same rows.
+    fn check(&mut self) {
+        let (_, rows) = audit::audit(&self.file, self.pieces());
+        let column = |field: fn(&Row) -> u32| rows.iter().map(field).collect::<Vec<u32>>();
+        let expected = [column(|row| row.start), column(|row| row.part), column(|row| row.owner)];
+        for program in [Program::Library, Program::Fast] {
+            self.clear();
+            self.audit(program);
+            assert!(self.tables == expected, "other rows of {}", program.name());
+        }
     }
 
     fn pieces(&self) -> usize {

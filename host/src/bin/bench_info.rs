@@ -1,6 +1,7 @@
 //! The StreamerInfo reader through the C interface beside the two Rust readers, on the same records in one run.
 
 use kirovadzun_host::gen::infos::of_elements;
+use kirovadzun_host::model::streamer;
 use kirovadzun_host::programs::Program;
 use kirovadzun_host::timing::{best_used, print, shorter, Line};
 use std::time::Duration;
@@ -22,6 +23,12 @@ fn measure(elements: usize) -> Line {
         let answer = program.read_info(&info.bytes, table);
         assert_eq!((answer.number, answer.count), (0, elements as u64), "{}", program.name());
     };
+    for program in [Program::Library, Program::Fast] {
+        table.fill(1);
+        read(program, &mut table);
+        assert!(table == info.rows.concat(), "other rows of {}", program.name());
+    }
+    assert!(streamer::read_info(&info.bytes, 0, table.len()).1 == info.rows, "other rows of the second program");
     let turn = |table: &mut Vec<u32>| {
         Program::ALL.map(|program| best_used(RUNS, table, |table| table.fill(0), |table| read(program, table)))
     };
