@@ -1,0 +1,160 @@
+-- Tags: what is answered, from facts, and what an answer says.
+use Prim.Native.Nat.{ℕ, _+_, _-_, _<_, _≤_}
+use mathlib.Core.List.{List}
+use mathlib.Core.Bool.{Bool, true, false}
+use mathlib.Core.Path.{_≡_, refl, sym, ap, _∙_}
+use native.Mathlib.Omega.{arith}
+use borrow.Author.Tests.{eq-eqb, ne-eqb, le-leb, lt-leb}
+use lib.ListN.{take, drop}
+use lib.Dec.{leb, eqb}
+use Rattle.wire.specs.Check.{All, pick}
+use Rattle.wire.specs.Number.{numAt}
+use Rattle.wire.proofs.Checks.{picked, not-picked, from-picked}
+use Rattle.infofield.specs.Field.{andThen, fieldAt, countAt, counted}
+use Rattle.infofield.proofs.Steps.{from-open}
+use Rattle.infotag.specs.Tag.{firstIn, classNameAt, allowed, fresh, onName, newTag, onOffset, oldTag, tagAt, onTag, headAt}
+use Rattle.infofield.specs.declared.field.Step.{Step}
+use Rattle.infofield.specs.declared.field.Step.the-variants as step
+use Rattle.infofield.specs.declared.field.Count.{Count}
+use Rattle.infofield.specs.declared.field.Count.the-variants.{Open, Bad}
+use Rattle.infotag.specs.declared.tag.First.{First}
+use Rattle.infotag.specs.declared.tag.First.the-variants.{At, Nowhere}
+use Rattle.infotag.specs.declared.tag.Class.{Class}
+use Rattle.infotag.specs.declared.tag.Class.the-variants.{Named, Cut}
+use Rattle.infotag.specs.declared.tag.Tag.{Tag}
+use Rattle.infotag.specs.declared.tag.Tag.the-variants.{Known, Wrong}
+use Rattle.infotag.specs.declared.tag.Start.{Start}
+use Rattle.infotag.specs.declared.tag.Head.{Head}
+use Rattle.infotag.specs.declared.tag.Head.the-variants as head
+
+-- a new tag
+module _ (s : List ℕ) (rec p q e low high : ℕ) (ts : List ℕ) {y : Class} (is : y ≡ classNameAt s q e) where
+  pub name-cut : y ≡ Cut → Wrong 21 p ≡ newTag s rec p q e low high ts
+  unfolding newTag
+  name-cut g = rw (sym is ∙ g)
+
+  pub misnamed : {c r : ℕ} → y ≡ Named c r → (All (fresh ts low high c) → ⊥) → Wrong 22 p ≡ newTag s rec p q e low high ts
+  unfolding newTag
+  misnamed {c} g h = rw (sym is ∙ g) (sym (not-picked (fresh ts low high c) _ _ h))
+
+  pub named : {c r o : ℕ} → y ≡ Named c r → o ≡ p - rec → All (fresh ts low high c) → Known c o r ≡ newTag s rec p q e low high ts
+  unfolding newTag
+  named {c} g i h = rw (sym is ∙ g, i) (sym (picked (fresh ts low high c) _ _ h))
+
+-- a number that refers to a tag
+module _ (v p q low high : ℕ) (ts : List ℕ) where
+  pub too-low : v ≤ 2147483650 → Wrong 22 p ≡ oldTag v p q low high ts
+  unfolding oldTag
+  too-low h = rw (le-leb v 2147483650 h)
+
+  module _ (o : ℕ) (l : 2147483650 < v) (i : o ≡ v - 2147483650) {y : First} (is : y ≡ firstIn ts o) where
+    found : oldTag v p q low high ts ≡ onOffset y o p q low high
+    unfolding oldTag
+    found = rw (lt-leb v 2147483650 l, ← i, ← is)
+
+    pub no-tag : y ≡ Nowhere → Wrong 22 p ≡ oldTag v p q low high ts
+    no-tag g = rw (found, g)
+
+    pub misplaced : {c : ℕ} → y ≡ At c → (All (allowed low high c) → ⊥) → Wrong 22 p ≡ oldTag v p q low high ts
+    misplaced {c} g h = rw (found, g) (sym (not-picked (allowed low high c) _ _ h))
+
+    pub referred : {c : ℕ} → y ≡ At c → All (allowed low high c) → Known c o q ≡ oldTag v p q low high ts
+    referred {c} g h = rw (found, g) (sym (picked (allowed low high c) _ _ h))
+
+-- a tag, and an object's head
+module _ (s : List ℕ) (rec p e low high : ℕ) (ts : List ℕ) {y : Step} (is : y ≡ fieldAt 4 p e) where
+  pub tag-cut : {c r : ℕ} → y ≡ step.Wrong c r → Wrong c r ≡ tagAt s rec p e low high ts
+  unfolding tagAt andThen
+  tag-cut g = rw (sym is ∙ g)
+
+  pub tag-new : {q : ℕ} → y ≡ step.Next q → {v : ℕ} {x : Tag} → v ≡ numAt 4 s p → v ≡ 4294967295 → x ≡ newTag s rec p q e low high ts
+      → x ≡ tagAt s rec p e low high ts
+  unfolding tagAt andThen
+  tag-new g {v} i j h = rw (sym is ∙ g, ← i, eq-eqb v 4294967295 j) h
+
+  pub tag-old : {q : ℕ} → y ≡ step.Next q → {v : ℕ} {x : Tag} → v ≡ numAt 4 s p → (v ≡ 4294967295 → ⊥) → x ≡ oldTag v p q low high ts
+      → x ≡ tagAt s rec p e low high ts
+  unfolding tagAt andThen
+  tag-old g {v} i j h = rw (sym is ∙ g, ← i, ne-eqb v 4294967295 j) h
+
+module _ (s : List ℕ) (rec p e low high : ℕ) (ts : List ℕ) {y : Count} (is : y ≡ countAt s p e) where
+  pub head-bad : y ≡ Bad → head.Wrong 21 p ≡ headAt s rec p e low high ts
+  unfolding headAt counted
+  head-bad g = rw (sym is ∙ g)
+
+  pub head-cut : {q f : ℕ} → y ≡ Open q f → {x : Tag} {c r : ℕ} → x ≡ tagAt s rec q f low high ts → x ≡ Wrong c r
+      → head.Wrong c r ≡ headAt s rec p e low high ts
+  unfolding headAt counted
+  head-cut g d i = rw (sym is ∙ g, sym d ∙ i)
+
+  pub head-is : {q f : ℕ} → y ≡ Open q f → {x : Tag} {c o r : ℕ} → x ≡ tagAt s rec q f low high ts → x ≡ Known c o r
+      → _≡_ {A = Head} (head.Known (record { class = c; offset = o; next = r; close = f })) (headAt s rec p e low high ts)
+  unfolding headAt counted
+  head-is g d i = rw (sym is ∙ g, sym d ∙ i)
+
+-- the class of a tag is at most high
+new-high : (s : List ℕ) (rec p q e low high : ℕ) (ts : List ℕ) {c o r : ℕ} → newTag s rec p q e low high ts ≡ Known c o r → c ≤ high
+unfolding newTag
+new-high s rec p q e low high ts {c} {o} {r} g = go (classNameAt s q e) g
+  where
+    go : (x : Class) → onName x rec p low high ts ≡ Known c o r → c ≤ high
+    go Cut i = let z : _≡_ {A = ℕ} 0 1 = cc in absurd (omega arith)
+    go (Named k n) i =
+        let h = from-picked (fresh ts low high k) (Known k (p - rec) n) (Wrong 22 p) (sym i)
+          (λ j. let z : _≡_ {A = ℕ} 0 1 = cc in omega arith) in
+        let a = h .0 in
+        let b : k ≡ c = cc in
+        omega (arith, h .1 .1 .0)
+
+old-high : (v p q low high : ℕ) (ts : List ℕ) {c o r : ℕ} → oldTag v p q low high ts ≡ Known c o r → c ≤ high
+unfolding oldTag
+old-high v p q low high ts {c} {o} {r} g = go (leb v 2147483650) g
+  where
+    at : (x : First) → onOffset x (v - 2147483650) p q low high ≡ Known c o r → c ≤ high
+    at Nowhere i = let z : _≡_ {A = ℕ} 0 1 = cc in absurd (omega arith)
+    at (At k) i =
+        let h = from-picked (allowed low high k) (Known k (v - 2147483650) q) (Wrong 22 p) (sym i) (λ j. let z : _≡_ {A = ℕ} 0 1 = cc in omega arith) in
+        let a = h .0 in
+        let b : k ≡ c = cc in
+        omega (arith, h .1 .1 .0)
+
+    go : (b : Bool) → pick b (Wrong 22 p) (onOffset (firstIn ts (v - 2147483650)) (v - 2147483650) p q low high) ≡ Known c o r → c ≤ high
+    go true i = let z : _≡_ {A = ℕ} 0 1 = cc in absurd (omega arith)
+    go false i = at (firstIn ts (v - 2147483650)) i
+
+tag-high : (s : List ℕ) (rec p e low high : ℕ) (ts : List ℕ) {c o r : ℕ} → tagAt s rec p e low high ts ≡ Known c o r → c ≤ high
+unfolding tagAt andThen
+tag-high s rec p e low high ts {c} {o} {r} g = go (fieldAt 4 p e) g
+  where
+    by : (q : ℕ) (b : Bool) → pick b (newTag s rec p q e low high ts) (oldTag (numAt 4 s p) p q low high ts) ≡ Known c o r → c ≤ high
+    by q true i = new-high s rec p q e low high ts i
+    by q false i = old-high (numAt 4 s p) p q low high ts i
+
+    go : (x : Step) → andThen Wrong x (λ q. pick (eqb (numAt 4 s p) 4294967295) (newTag s rec p q e low high ts) (oldTag (numAt 4 s p) p q low high ts)) ≡ Known c o r → c ≤ high
+    go (step.Next q) i = by q (eqb (numAt 4 s p) 4294967295) i
+    go (step.Wrong a b) i = let z : _≡_ {A = ℕ} 0 1 = cc in absurd (omega arith)
+
+classIn : Head → ℕ
+classIn (head.Known h) = h .class
+classIn (head.Wrong c p) = 0
+
+closeIn : Head → ℕ
+closeIn (head.Known h) = h .close
+closeIn (head.Wrong c p) = 0
+
+-- an object's class is at most high, and its end is at or before the innermost open end
+pub head-bounds : (s : List ℕ) (rec p e low high : ℕ) (ts : List ℕ) {y : Head} {h : Start} → y ≡ headAt s rec p e low high ts → y ≡ head.Known h
+    → (h .class ≤ high) × (h .close ≤ e)
+unfolding headAt counted classIn closeIn
+head-bounds s rec p e low high ts {y} {h} d g = go (countAt s p e) refl (sym d ∙ g)
+  where
+    on : (q f : ℕ) → f ≤ e → (x : Tag) → x ≡ tagAt s rec q f low high ts → onTag x f ≡ head.Known h → (h .class ≤ high) × (h .close ≤ e)
+    on q f l (Known c o r) i j =
+        let a : c ≡ h .class = ap classIn j in
+        let b : f ≡ h .close = ap closeIn j in
+        omega (arith, tag-high s rec q f low high ts (sym i))
+    on q f l (Wrong a b) i j = let z : _≡_ {A = ℕ} 0 1 = cc in absurd (omega arith)
+
+    go : (x : Count) → x ≡ countAt s p e → counted head.Wrong x p (λ q f. onTag (tagAt s rec q f low high ts) f) ≡ head.Known h → (h .class ≤ high) × (h .close ≤ e)
+    go (Open q f) i j = on q f (from-open s p e i refl .2) (tagAt s rec q f low high ts) refl j
+    go Bad i j = let z : _≡_ {A = ℕ} 0 1 = cc in absurd (omega arith)
