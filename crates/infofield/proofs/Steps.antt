@@ -3,7 +3,7 @@ use Prim.Native.Nat.{ℕ, zero, suc, _+_, _-_, _<_, _≤_}
 use mathlib.Core.List.{List}
 use mathlib.Core.Bool.{Bool, true, false}
 use lib.Dec.{leb}
-use mathlib.Core.Path.{_≡_, refl, sym, _∙_}
+use mathlib.Core.Path.{_≡_, refl, sym, ap, _∙_}
 use native.Mathlib.Omega.{arith}
 use native.Mathlib.Nat.{suc-add, zero-add}
 use native.Mathlib.Numerals.{add-one}
@@ -15,9 +15,13 @@ use Rattle.wire.specs.declared.text.Found.{Found}
 use Rattle.wire.specs.declared.text.Found.the-variants.{Held, Cut}
 use Rattle.wire.proofs.Checks.{picked, not-picked, from-picked}
 use Rattle.wire.proofs.Texts.{from-held}
-use Rattle.infofield.specs.Field.{andThen, fieldAt, numbersAt, endOf, counts, countAt, counted, endedAt, placed, textFieldAt, unnamedAt}
+use Rattle.infofield.specs.Field.{andThen, fieldAt, numbersAt, endOf, counts, countAt, counted, versionedAt, versioned}
+use Rattle.infofield.specs.Field.{endedAt, placed, textFieldAt, unnamedAt}
 use Rattle.infofield.specs.declared.field.Step.{Step}
 use Rattle.infofield.specs.declared.field.Step.the-variants.{Next, Wrong}
+use Rattle.infofield.specs.declared.field.Body.{Body}
+use Rattle.infofield.specs.declared.field.Opened.{Opened}
+use Rattle.infofield.specs.declared.field.Opened.the-variants as opened
 use Rattle.infofield.specs.declared.field.Count.{Count}
 use Rattle.infofield.specs.declared.field.Count.the-variants.{Open, Bad}
 
@@ -29,6 +33,12 @@ go-on w f e g h = rw (sym e ∙ g) h
 pub halt : {A : Type 0} (w : ℕ → ℕ → A) (f : ℕ → A) {x y : Step} {c p : ℕ} → y ≡ x → y ≡ Wrong c p → w c p ≡ andThen w x f
 unfolding andThen
 halt w f e g = rw (sym e ∙ g)
+
+pub each-step : {A : Type 0} (w : ℕ → ℕ → A) (f : ℕ → A) (P : A → Type 0) → ((c p : ℕ) → P (w c p)) → (x : Step)
+    → ((q : ℕ) → x ≡ Next q → P (f q)) → P (andThen w x f)
+unfolding andThen
+each-step w f P h (Next q) g = g q refl
+each-step w f P h (Wrong c p) g = h c p
 
 -- a step that stopped is the answer
 pub halts : (f : ℕ → Step) {x y : Step} {c p : ℕ} → y ≡ x → y ≡ Wrong c p → y ≡ andThen Wrong x f
@@ -129,6 +139,43 @@ module _ (s : List ℕ) (p e : ℕ) where
       let a : q ≡ p + 4 = cc in
       let b : f ≡ endOf s p = cc in
       omega (arith, h .1)
+
+-- an object with a version was opened, or not
+pub go-opened : {A : Type 0} (w : ℕ → ℕ → A) (f : Body → A) {x y : Opened} {b : Body} {r : A}
+    → y ≡ x → y ≡ opened.Held b → r ≡ f b → r ≡ versioned w x f
+unfolding versioned
+go-opened w f d g h = rw (sym d ∙ g) h
+
+pub halt-opened : {A : Type 0} (w : ℕ → ℕ → A) (f : Body → A) {x y : Opened} {c p : ℕ}
+    → y ≡ x → y ≡ opened.Wrong c p → w c p ≡ versioned w x f
+unfolding versioned
+halt-opened w f d g = rw (sym d ∙ g)
+
+pub each-opened : {A : Type 0} (w : ℕ → ℕ → A) (f : Body → A) (P : A → Type 0) → ((c p : ℕ) → P (w c p)) → (x : Opened)
+    → ((b : Body) → x ≡ opened.Held b → P (f b)) → P (versioned w x f)
+unfolding versioned
+each-opened w f P h (opened.Held b) g = g b refl
+each-opened w f P h (opened.Wrong c p) g = h c p
+
+closeIn : Opened → ℕ
+closeIn (opened.Held b) = b .close
+closeIn (opened.Wrong c p) = 0
+
+-- its end is at or before the innermost open end
+pub from-versioned : (s : List ℕ) (p e : ℕ) {y : Opened} {b : Body} → y ≡ versionedAt s p e → y ≡ opened.Held b → b .close ≤ e
+unfolding versionedAt counted andThen closeIn
+from-versioned s p e {y} {b} d g = go (countAt s p e) refl (sym d ∙ g)
+  where
+    on : (f : ℕ) → f ≤ e → (x : Step)
+        → andThen opened.Wrong x (λ a. opened.Held (record { from = a; close = f })) ≡ opened.Held b → b .close ≤ e
+    on f l (Next n) i = let j : f ≡ b .close = ap closeIn i in omega arith
+    on f l (Wrong c n) i = let z : _≡_ {A = ℕ} 0 1 = cc in absurd (omega arith)
+
+    go : (x : Count) → x ≡ countAt s p e
+        → counted opened.Wrong x p (λ q f. andThen opened.Wrong (fieldAt 2 q f) (λ a. opened.Held (record { from = a; close = f })))
+        ≡ opened.Held b → b .close ≤ e
+    go (Open q f) i j = on f (from-open s p e i refl .2) (fieldAt 2 q f) j
+    go Bad i j = let z : _≡_ {A = ℕ} 0 1 = cc in absurd (omega arith)
 
 -- numbers in a row: place is where the first i of them end
 pub record Counting (at end i place : ℕ) : Type 0 where

@@ -9,6 +9,9 @@ use Rattle.wire.specs.declared.text.Found.{Found}
 use Rattle.wire.specs.declared.text.Found.the-variants.{Held, Cut}
 use Rattle.infofield.specs.declared.field.Step.{Step}
 use Rattle.infofield.specs.declared.field.Step.the-variants.{Next, Wrong}
+use Rattle.infofield.specs.declared.field.Body.{Body}
+use Rattle.infofield.specs.declared.field.Opened.{Opened}
+use Rattle.infofield.specs.declared.field.Opened.the-variants as opened
 use Rattle.infofield.specs.declared.field.Count.{Count}
 use Rattle.infofield.specs.declared.field.Count.the-variants.{Open, Bad}
 
@@ -42,6 +45,16 @@ countAt s p e = pick (all (counts s p e)) (Open (p + 4) (endOf s p)) Bad
 unfoldable pub counted : {A : Type 0} → (ℕ → ℕ → A) → Count → ℕ → (ℕ → ℕ → A) → A
 counted w (Open q f) p body = body q f
 counted w Bad p body = w 21 p
+
+-- an object with a ByteCount at p and a Version (2): where its content goes on, and its end
+unfoldable pub versionedAt : List ℕ → ℕ → ℕ → Opened
+versionedAt s p e =
+    counted opened.Wrong (countAt s p e) p (λ q f.
+    andThen opened.Wrong (fieldAt 2 q f) (λ a. opened.Held (record { from = a; close = f })))
+
+unfoldable pub versioned : {A : Type 0} → (ℕ → ℕ → A) → Opened → (Body → A) → A
+versioned w (opened.Held b) f = f b
+versioned w (opened.Wrong c p) f = w c p
 
 -- "an object ending early is 21 where it stopped": the content stopped at p, the object ends at e
 unfoldable pub endedAt : ℕ → ℕ → Step

@@ -1,6 +1,8 @@
 // Fields, ByteCounts and ends of objects (document 002).
 ghost use mathlib.Core.Path.{_≡_};
-ghost use Rattle.infofield.specs.Field.{countAt, fieldAt, numbersAt, textFieldAt, unnamedAt, objectAt, endedAt, zeroAt};
+ghost use Rattle.wire.specs.Lent.{before};
+ghost use Rattle.infofield.specs.Field.{countAt, fieldAt, versionedAt, numbersAt, textFieldAt, unnamedAt};
+ghost use Rattle.infofield.specs.Field.{objectAt, endedAt, zeroAt};
 use wire::number::be32;
 use wire::text::Found;
 use wire::text::read_text;
@@ -17,9 +19,21 @@ pub enum Count {
     Bad,
 }
 
+// The content of an object: the place after its version, and its end.
+pub struct Body {
+    pub from: usize,
+    pub close: usize,
+}
+
+// An object that was opened, or the first fault.
+pub enum Opened {
+    Held(Body),
+    Wrong(u32, usize),
+}
+
 // The ByteCount at a place, within the innermost open end.
 pub fn open(file: &[u8], at: usize, end: usize) -> Count
-    ensures { λ r. ⌜ r ≡ countAt (now (file .entry)) at end ⌝ }
+    ensures { λ r. ⌜ r ≡ countAt (before file) at end ⌝ }
 {
     if end < at {
         return Count::Bad;
@@ -55,6 +69,19 @@ pub fn field(size: usize, at: usize, end: usize) -> Step
     Step::Next(at + size)
 }
 
+// The ByteCount and the version of an object.
+pub fn versioned(file: &[u8], at: usize, end: usize) -> Opened
+    ensures { λ r. ⌜ r ≡ versionedAt (before file) at end ⌝ }
+{
+    let Count::Open(from, close) = open(file, at, end) else {
+        return Opened::Wrong(21, at);
+    };
+    match field(2, from, close) {
+        Step::Next(next) => Opened::Held(Body { from: next, close }),
+        Step::Wrong(number, place) => Opened::Wrong(number, place),
+    }
+}
+
 // So many numbers of four bytes.
 pub fn numbers(count: usize, at: usize, end: usize) -> Step
     ensures { λ r. ⌜ r ≡ numbersAt count at end ⌝ }
@@ -74,7 +101,7 @@ pub fn numbers(count: usize, at: usize, end: usize) -> Step
 
 // A string with its length byte.
 pub fn text(file: &[u8], at: usize, end: usize) -> Step
-    ensures { λ r. ⌜ r ≡ textFieldAt (now (file .entry)) at end ⌝ }
+    ensures { λ r. ⌜ r ≡ textFieldAt (before file) at end ⌝ }
 {
     let Found::Held(t) = read_text(file, at, end) else {
         return Step::Wrong(21, at);
@@ -84,7 +111,7 @@ pub fn text(file: &[u8], at: usize, end: usize) -> Step
 
 // The name of a list or an array, which has none: a length byte 0.
 pub fn unnamed(file: &[u8], at: usize, end: usize) -> Step
-    ensures { λ r. ⌜ r ≡ unnamedAt (now (file .entry)) at end ⌝ }
+    ensures { λ r. ⌜ r ≡ unnamedAt (before file) at end ⌝ }
 {
     let Found::Held(t) = read_text(file, at, end) else {
         return Step::Wrong(21, at);
@@ -98,7 +125,7 @@ pub fn unnamed(file: &[u8], at: usize, end: usize) -> Step
 
 // A number of four bytes that is 0.
 pub fn zero(file: &[u8], at: usize, end: usize) -> Step
-    ensures { λ r. ⌜ r ≡ zeroAt (now (file .entry)) at end ⌝ }
+    ensures { λ r. ⌜ r ≡ zeroAt (before file) at end ⌝ }
 {
     let r = field(4, at, end);
     let Step::Next(_next) = r else {
@@ -112,7 +139,7 @@ pub fn zero(file: &[u8], at: usize, end: usize) -> Step
 
 // A TObject that is not referenced.
 pub fn object(file: &[u8], at: usize, end: usize) -> Step
-    ensures { λ r. ⌜ r ≡ objectAt (now (file .entry)) at end ⌝ }
+    ensures { λ r. ⌜ r ≡ objectAt (before file) at end ⌝ }
 {
     let r = field(2, at, end);
     let Step::Next(id) = r else {

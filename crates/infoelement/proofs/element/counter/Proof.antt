@@ -1,8 +1,8 @@
-use Rattle.streamer.specs.Element.{counterAt}
-use Rattle.streamer.proofs.Steps.{go-on, halts}
+use Rattle.infoelement.specs.Element.{counterAt}
+use Rattle.infofield.proofs.Steps.{go-on, halts}
 use borrow.Author.Needs.{needs}
-use Rattle.streamer.proofs.element.counter.Statement.{statement}
-use Rattle.streamer.proofs.element.counter.Tie as tie
+use Rattle.infoelement.proofs.element.counter.Statement.{statement}
+use Rattle.infoelement.proofs.element.counter.Tie as tie
 
 numbers-requires : tie.Need-numbers-requires
 numbers-requires c κs = search needs

@@ -1,8 +1,8 @@
 use borrow.Author.Tests.{eq-eqb, ne-eqb}
-use Rattle.streamer.specs.Element.{ownAt}
+use Rattle.infoelement.specs.Element.{ownAt}
 use borrow.Author.Needs.{needs}
-use Rattle.streamer.proofs.element.own.Statement.{statement}
-use Rattle.streamer.proofs.element.own.Tie as tie
+use Rattle.infoelement.proofs.element.own.Statement.{statement}
+use Rattle.infoelement.proofs.element.own.Tie as tie
 
 numbers-requires : tie.Need-numbers-requires
 numbers-requires c κs = search needs
