@@ -12,7 +12,7 @@ use Rattle.wire.specs.Number.{numAt}
 use Rattle.wire.proofs.Checks.{picked, not-picked, from-picked}
 use Rattle.infofield.specs.Field.{andThen, fieldAt, countAt, counted}
 use Rattle.infofield.proofs.Steps.{from-open}
-use Rattle.infotag.specs.Tag.{firstIn, classNameAt, allowed, fresh, onName, newTag, onOffset, oldTag, tagAt, onTag, headAt}
+use Rattle.infotag.specs.Tag.{firstIn, classNameAt, allowed, fresh, onName, newTag, onOffset, oldTag, tagAt, onTag, headAt, headed}
 use Rattle.infofield.specs.declared.field.Step.{Step}
 use Rattle.infofield.specs.declared.field.Step.the-variants as step
 use Rattle.infofield.specs.declared.field.Count.{Count}
@@ -158,3 +158,13 @@ head-bounds s rec p e low high ts {y} {h} d g = go (countAt s p e) refl (sym d �
     go : (x : Count) → x ≡ countAt s p e → counted head.Wrong x p (λ q f. onTag (tagAt s rec q f low high ts) f) ≡ head.Known h → (h .class ≤ high) × (h .close ≤ e)
     go (Open q f) i j = on q f (from-open s p e i refl .2) (tagAt s rec q f low high ts) refl j
     go Bad i j = let z : _≡_ {A = ℕ} 0 1 = cc in absurd (omega arith)
+
+-- an object's head was read, or not
+module _ {A : Type 0} (w : ℕ → ℕ → A) (f : Start → A) where
+  pub go-head : {x y : Head} {n : Start} {r : A} → y ≡ x → y ≡ head.Known n → r ≡ f n → r ≡ headed w x f
+  unfolding headed
+  go-head e g h = rw (sym e ∙ g) h
+
+  pub halt-head : {x y : Head} {c p : ℕ} → y ≡ x → y ≡ head.Wrong c p → w c p ≡ headed w x f
+  unfolding headed
+  halt-head e g = rw (sym e ∙ g)

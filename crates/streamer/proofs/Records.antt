@@ -1,45 +1,45 @@
--- The StreamerInfo record: its key, its list and the answers of the steps.
-use Prim.Native.Nat.{ℕ, _+_, _-_, _≤_}
+-- The StreamerInfo record: its list and the answers of the steps.
+use Prim.Native.Nat.{ℕ, _+_, _≤_}
 use mathlib.Core.List.{List, [], _∷_}
 use mathlib.Core.Bool.{Bool, true, false, not}
 use mathlib.Core.Path.{_≡_, refl, sym, _∙_}
 use mathlib.Core.Logic.{inl, inr}
 use native.Mathlib.Omega.{arith}
 use borrow.Author.Tests.{eq-eqb, ne-eqb, eqb-true}
-use lib.ListN.{length, take, drop}
+use denote.Enum.Declared.{tagOf}
+use types.Run.{OneOf}
+use lib.ListN.{length}
 use lib.Dec.{eqb}
-use Rattle.wire.specs.Check.{all, All, pick}
-use Rattle.wire.specs.Text.{textAt, contentOf}
-use Rattle.key.specs.Header.{keyAt, namesAt, sumOf, plain, unpackedData}
-use Rattle.key.specs.Piece.{sizeAt, recordThere, sized, recordFits, pieceAt}
+use Rattle.wire.specs.Check.{pick}
+use Rattle.wire.proofs.Checks.{yes-all, not-all}
+use Rattle.key.specs.Header.{keyAt, unpackedData}
+use Rattle.key.specs.Piece.{pieceAt}
 use Rattle.key.specs.declared.header.Key.{Key}
 use Rattle.key.specs.declared.piece.Piece.{Piece}
 use Rattle.key.specs.declared.piece.Piece.the-variants.{Record, Gap, Refused}
-use Rattle.wire.proofs.Checks.{yes-all, not-all, all-yes}
-use Rattle.key.proofs.Pieces.{size-plus}
-use Rattle.streamer.proofs.Runs.{ended-stop}
-use Rattle.streamer.specs.Row.{stop, Ended}
-use denote.Enum.Declared.{tagOf}
-use types.Run.{OneOf}
+use Rattle.key.proofs.Pieces.{Recorded, from-record}
 use Rattle.key.proofs.piece.Piece.{the-type}
-use Rattle.wire.specs.Equal.{eqBytes}
-use Rattle.wire.specs.Name.{tList, streamerInfo}
-use Rattle.streamer.specs.Info.{sized as sizedBy, filling, wholeAt, isInfo, listAt, recordAt, onPiece, infoAt, noRecord}
-use Rattle.streamer.specs.Field.{countAt}
-use Rattle.streamer.specs.declared.field.Count.{Count}
-use Rattle.streamer.specs.declared.field.Count.the-variants.{Open, Bad}
+use Rattle.infofield.specs.Field.{countAt}
+use Rattle.infofield.specs.declared.field.Count.{Count}
+use Rattle.infofield.specs.declared.field.Count.the-variants.{Open, Bad}
+use Rattle.streamer.specs.Row.{stop}
+use Rattle.streamer.specs.Runs.{Ended, noRecord}
+use Rattle.streamer.specs.InfoKey.{isInfo}
+use Rattle.streamer.specs.Info.{sized, filling, wholeAt, listAt, recordAt, onPiece, infoAt}
 use Rattle.streamer.specs.declared.info.Size.{Size}
 use Rattle.streamer.specs.declared.info.Collection.{Collection}
 use Rattle.streamer.specs.declared.info.Collection.the-variants.{Held, Wrong}
+use Rattle.streamer.proofs.Runs.{ended-stop}
 
 -- what a list or an array starts with
-pub go-sized : {A : Type 0} (w : ℕ → ℕ → A) (f : Size → A) {x y : Collection} {n : Size} {r : A} → y ≡ x → y ≡ Held n → r ≡ f n → r ≡ sizedBy w x f
-unfolding sizedBy
-go-sized w f e g h = rw (sym e ∙ g) h
+module _ {A : Type 0} (w : ℕ → ℕ → A) (f : Size → A) where
+  pub go-sized : {x y : Collection} {n : Size} {r : A} → y ≡ x → y ≡ Held n → r ≡ f n → r ≡ sized w x f
+  unfolding sized
+  go-sized e g h = rw (sym e ∙ g) h
 
-pub halt-sized : {A : Type 0} (w : ℕ → ℕ → A) (f : Size → A) {x y : Collection} {c p : ℕ} → y ≡ x → y ≡ Wrong c p → w c p ≡ sizedBy w x f
-unfolding sizedBy
-halt-sized w f e g = rw (sym e ∙ g)
+  pub halt-sized : {x y : Collection} {c p : ℕ} → y ≡ x → y ≡ Wrong c p → w c p ≡ sized w x f
+  unfolding sized
+  halt-sized e g = rw (sym e ∙ g)
 
 -- the ByteCount of the list
 module _ (s : List ℕ) (p e : ℕ) {y : Count} (is : y ≡ countAt s p e) where
@@ -54,58 +54,6 @@ module _ (s : List ℕ) (p e : ℕ) {y : Count} (is : y ≡ countAt s p e) where
   pub whole-is : {q f : ℕ} → y ≡ Open q f → f ≡ e → Open q f ≡ wholeAt s p e
   unfolding wholeAt
   whole-is {q} {f} g h = rw (sym is ∙ g, eq-eqb f e h)
-
--- where the strings of a key stand
-pub record Places (s : List ℕ) (p : ℕ) (k : Key) : Type 0 where
-  pub sum : k .title .next ≡ p + sumOf k
-  pub class : k .class .next ≡ k .class .start + k .class .len
-  pub name : k .name .next ≡ k .name .start + k .name .len
-  pub before : k .class .next ≤ k .name .start
-  pub after : k .name .next ≤ k .title .next
-
-places : (s : List ℕ) (p : ℕ) → Places s p (keyAt s p)
-unfolding keyAt namesAt textAt
-places s p = record { sum = omega arith; class = omega arith; name = omega arith; before = omega arith; after = omega arith }
-
-pub key-places : (s : List ℕ) (p : ℕ) {k : Key} → k ≡ keyAt s p → Places s p k
-key-places s p e = rw e (places s p)
-
--- the key of the StreamerInfo record, or another
-module _ (s : List ℕ) (k : Key) where
-  pub not-plain : (k .keylen ≡ sumOf k → ⊥) → false ≡ isInfo s k
-  not-plain h = rw (ne-eqb (k .keylen) (sumOf k) h)
-
-  is-plain : k .keylen ≡ sumOf k → all (plain k) ≡ true
-  is-plain h = yes-all (plain k) (h, tt)
-
-  module _ (h : k .keylen ≡ sumOf k) (m : ℕ) (i : m ≡ k .class .len) {y : Bool} (is : y ≡ eqBytes (take m (drop (k .class .start) s)) tList) where
-    class-is : eqBytes (contentOf s (k .class)) tList ≡ y
-    unfolding contentOf
-    class-is = rw (← i) (sym is)
-
-    pub other-class : y ≡ false → false ≡ isInfo s k
-    other-class g = rw (is-plain h, class-is, g)
-
-    pub by-name : y ≡ true → (l : ℕ) → l ≡ k .name .len → {x : Bool} → x ≡ eqBytes (take l (drop (k .name .start) s)) streamerInfo → x ≡ isInfo s k
-    unfolding contentOf
-    by-name g l j d = rw (is-plain h, class-is, g, ← j) d
-
--- a record that was read at a place
-pub from-record : (s : List ℕ) (p : ℕ) {y : Piece} {k : Key} → y ≡ pieceAt s p → y ≡ Record k → (k ≡ keyAt s p) × (All (sized s p) × All (recordFits s p))
-unfolding pieceAt
-from-record s p {y} {k} d g = go (all (sized s p)) refl (sym g ∙ d)
-  where
-    last : (b : Bool) → all (recordFits s p) ≡ b → All (sized s p) → Record k ≡ pick b (Record (keyAt s p)) (Refused 6 p) → (k ≡ keyAt s p) × (All (sized s p) × All (recordFits s p))
-    last true e h i = (cc, (h, all-yes (recordFits s p) e))
-    last false e h i = let z : _≡_ {A = ℕ} 0 1 = cc in absurd (omega arith)
-
-    next : (b : Bool) → All (sized s p) → Record k ≡ pick b (pick (all (recordFits s p)) (Record (keyAt s p)) (Refused 6 p)) (Gap (sizeAt s p)) → (k ≡ keyAt s p) × (All (sized s p) × All (recordFits s p))
-    next true h i = last (all (recordFits s p)) refl h i
-    next false h i = let z : _≡_ {A = ℕ} 0 1 = cc in absurd (omega arith)
-
-    go : (b : Bool) → all (sized s p) ≡ b → Record k ≡ pick b (pick (recordThere s p) (pick (all (recordFits s p)) (Record (keyAt s p)) (Refused 6 p)) (Gap (sizeAt s p))) (Refused 5 p) → (k ≡ keyAt s p) × (All (sized s p) × All (recordFits s p))
-    go true e i = next (recordThere s p) (all-yes (sized s p) e) i
-    go false e i = let z : _≡_ {A = ℕ} 0 1 = cc in absurd (omega arith)
 
 -- the end of the list is the data's
 pub from-whole : (s : List ℕ) (p e : ℕ) {y : Count} {q f : ℕ} → y ≡ wholeAt s p e → y ≡ Open q f → f ≡ e
@@ -128,14 +76,17 @@ pub record Found (s : List ℕ) (p : ℕ) (k : Key) : Type 0 where
   pub fits : p + k .nbytes ≤ length s
   pub strings : k .title .next ≤ length s
 
-found-at : (s : List ℕ) (p : ℕ) → All (Rattle.key.specs.Piece.sized s p) → All (recordFits s p) → Found s p (keyAt s p)
-unfolding keyAt
-found-at s p h g =
-    let e = size-plus s p (omega (arith, g .1 .1 .1 .1 .1 .1 .0)) in
-    record { is = refl; small = omega (arith, g); key = omega (arith, g); fits = omega (arith, h, g); strings = omega (arith, h, g) }
-
 pub found : (s : List ℕ) (p : ℕ) {y : Piece} {k : Key} → y ≡ pieceAt s p → y ≡ Record k → Found s p k
-found s p d g = let f = from-record s p d g in rw (f .0) (found-at s p (f .1 .0) (f .1 .1))
+found s p d g = go (from-record s p (sym d ∙ g))
+  where
+    go : {k : Key} → Recorded s p k → Found s p k
+    go r = record {
+      is = r .is;
+      small = rw (r .is) (omega (arith, r .fits));
+      key = rw (r .is) (omega (arith, r .fits));
+      fits = omega (arith, r .sized-there, r .size);
+      strings = rw (r .is) (omega (arith, r .sized-there, r .fits));
+    }
 
 -- a test that was turned round
 pub turned : (b : Bool) → not b ≡ true → b ≡ false
@@ -156,7 +107,8 @@ module _ (s : List ℕ) (p : ℕ) {y : Piece} (is : y ≡ pieceAt s p) where
   unfolding recordAt
   other-key {k} g d i = sym (rw (sym d ∙ i)) ∙ here g
 
-  pub packed : {k : Key} → y ≡ Record k → {b : Bool} → b ≡ isInfo s k → b ≡ true → (k .objlen + k .keylen ≡ k .nbytes → ⊥) → stop 19 p ≡ infoAt s p
+  pub packed : {k : Key} → y ≡ Record k → {b : Bool} → b ≡ isInfo s k → b ≡ true → (k .objlen + k .keylen ≡ k .nbytes → ⊥)
+      → stop 19 p ≡ infoAt s p
   unfolding recordAt
   packed {k} g d i h = sym (rw (sym d ∙ i, not-all (unpackedData k) (λ f. h (f .0)))) ∙ here g
 

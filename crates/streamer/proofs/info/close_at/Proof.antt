@@ -1,5 +1,5 @@
 use mathlib.Core.Path.{refl}
-use Rattle.streamer.proofs.Steps.{go-on, halt}
+use Rattle.infofield.proofs.Steps.{go-on, halt}
 use Rattle.streamer.proofs.Runs.{closed-next}
 use borrow.Author.Needs.{needs}
 use Rattle.streamer.proofs.info.close_at.Statement.{statement}

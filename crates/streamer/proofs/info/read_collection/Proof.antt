@@ -1,5 +1,5 @@
 use Rattle.streamer.specs.Info.{collectionAt}
-use Rattle.streamer.proofs.Steps.{go-on, halt}
+use Rattle.infofield.proofs.Steps.{go-on, halt}
 use borrow.Author.Needs.{needs}
 use Rattle.streamer.proofs.info.read_collection.Statement.{statement}
 use Rattle.streamer.proofs.info.read_collection.Tie as tie

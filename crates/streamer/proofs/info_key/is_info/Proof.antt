@@ -1,10 +1,10 @@
 use denote.Ref.{now}
 use Prim.Native.Nat.{_-_}
 use native.Mathlib.Omega.{arith}
-use Rattle.streamer.proofs.Records.{key-places, not-plain, other-class, by-name}
+use Rattle.streamer.proofs.InfoKeys.{key-places, not-plain, other-class, by-name}
 use borrow.Author.Needs.{needs}
-use Rattle.streamer.proofs.info.is_info.Statement.{statement}
-use Rattle.streamer.proofs.info.is_info.Tie as tie
+use Rattle.streamer.proofs.info_key.is_info.Statement.{statement}
+use Rattle.streamer.proofs.info_key.is_info.Tie as tie
 
 sub-if1 : tie.Need-sub-if1
 sub-if1 c = let a = c .before .before .before .before .before .args in let e = c .before .before .before .before .before .pre in let f = key-places (now (a .file)) (a .at) (e .0) in omega (arith, f, e)
