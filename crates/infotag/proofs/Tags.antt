@@ -101,7 +101,7 @@ new-high s rec p q e low high ts {c} {o} {r} g = go (classNameAt s q e) g
     go Cut i = let z : _≡_ {A = ℕ} 0 1 = cc in absurd (omega arith)
     go (Named k n) i =
         let h = from-picked (fresh ts low high k) (Known k (p - rec) n) (Wrong 22 p) (sym i)
-          (λ j. let z : _≡_ {A = ℕ} 0 1 = cc in omega arith) in
+        (λ j. let z : _≡_ {A = ℕ} 0 1 = cc in omega arith) in
         let a = h .0 in
         let b : k ≡ c = cc in
         omega (arith, h .1 .1 .0)
@@ -130,7 +130,9 @@ tag-high s rec p e low high ts {c} {o} {r} g = go (fieldAt 4 p e) g
     by q true i = new-high s rec p q e low high ts i
     by q false i = old-high (numAt 4 s p) p q low high ts i
 
-    go : (x : Step) → andThen Wrong x (λ q. pick (eqb (numAt 4 s p) 4294967295) (newTag s rec p q e low high ts) (oldTag (numAt 4 s p) p q low high ts)) ≡ Known c o r → c ≤ high
+    go : (x : Step)
+        → andThen Wrong x (λ q. pick (eqb (numAt 4 s p) 4294967295) (newTag s rec p q e low high ts) (oldTag (numAt 4 s p) p q low high ts))
+        ≡ Known c o r → c ≤ high
     go (step.Next q) i = by q (eqb (numAt 4 s p) 4294967295) i
     go (step.Wrong a b) i = let z : _≡_ {A = ℕ} 0 1 = cc in absurd (omega arith)
 
@@ -155,7 +157,8 @@ head-bounds s rec p e low high ts {y} {h} d g = go (countAt s p e) refl (sym d �
         omega (arith, tag-high s rec q f low high ts (sym i))
     on q f l (Wrong a b) i j = let z : _≡_ {A = ℕ} 0 1 = cc in absurd (omega arith)
 
-    go : (x : Count) → x ≡ countAt s p e → counted head.Wrong x p (λ q f. onTag (tagAt s rec q f low high ts) f) ≡ head.Known h → (h .class ≤ high) × (h .close ≤ e)
+    go : (x : Count) → x ≡ countAt s p e → counted head.Wrong x p (λ q f. onTag (tagAt s rec q f low high ts) f) ≡ head.Known h
+        → (h .class ≤ high) × (h .close ≤ e)
     go (Open q f) i j = on q f (from-open s p e i refl .2) (tagAt s rec q f low high ts) refl j
     go Bad i j = let z : _≡_ {A = ℕ} 0 1 = cc in absurd (omega arith)
 

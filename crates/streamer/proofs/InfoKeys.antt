@@ -39,7 +39,7 @@ module _ (s : List ℕ) (k : Key) where
   is-plain h = yes-all (plain k) (h, tt)
 
   module _ (h : k .keylen ≡ sumOf k) (m : ℕ) (i : m ≡ k .class .len)
-    {y : Bool} (is : y ≡ eqBytes (take m (drop (k .class .start) s)) tList) where
+      {y : Bool} (is : y ≡ eqBytes (take m (drop (k .class .start) s)) tList) where
     class-is : eqBytes (contentOf s (k .class)) tList ≡ y
     unfolding contentOf
     class-is = rw (← i) (sym is)

@@ -98,7 +98,7 @@ grown-ends n k e a b h g = rw g (closed-grown n k e a h)
 
 -- objects one after the other: after k of them from p with the tags ts, the place q, the tags us, m rows and the table u
 pub record Reading (f : ℕ → List ℕ → ℕ → Run) (ts : List ℕ) (p : ℕ) (t : List ℕ) (n k : ℕ) (us : List ℕ) (q : ℕ) (u : List ℕ) (m : ℕ)
-  : Type 0 where
+    : Type 0 where
   pub run : Ran (times f ts p k) t n (Next q m) us u
   pub table : length u ≡ length t
 
@@ -132,7 +132,7 @@ stop-is (going ts rs p) t n c r us u h = absurd h
 stop-is (stop d q) t n c r us u h = λ i. stop (h .0 i) (h .1 i)
 
 module _ {f : ℕ → List ℕ → ℕ → Run} {ts : List ℕ} {p : ℕ} {t : List ℕ} {n k : ℕ} {us : List ℕ} {q : ℕ} {u : List ℕ} {m : ℕ}
-  (h : Reading f ts p t n k us q u m) where
+    (h : Reading f ts p t n k us q u m) where
   one-more : (a : Rows) (us′ u′ : List ℕ) → Ran (f k us q) u m a us′ u′ → Ran (times f ts p (suc k)) t n a us′ u′
   unfolding times
   one-more a us′ u′ g = goes (f k) (times f ts p k) t n q m us u a us′ u′ (h .run) g

@@ -54,7 +54,7 @@ unfolding putRows flat putRow
 rows-front t n [] h = sym (patch-nil t (n * 6))
 rows-front t n (r ∷ rs) h =
     let e : pick (leb (n * 6 + 6) (length t)) (patch t (n * 6) (six r)) t ≡ patch t (n * 6) (six r) =
-      rw (le-leb (n * 6 + 6) (length t) (omega arith)) in
+    rw (le-leb (n * 6 + 6) (length t) (omega arith)) in
     let l = length-patch t (n * 6) (six r) (omega arith) in
     let m : suc n * 6 ≡ n * 6 + 6 = omega arith in
     rw e

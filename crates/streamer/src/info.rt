@@ -143,7 +143,15 @@ fn array_body(
             return Rows::Wrong(number, place);
         }
     };
-    let r = elements(file, owner, Span { at, end }, &mut *tags, &mut *table, n, size.count);
+    let r = elements(
+        file,
+        owner,
+        Span { at, end },
+        &mut *tags,
+        &mut *table,
+        n,
+        size.count,
+    );
     close_at(r, end)
 }
 
@@ -293,7 +301,14 @@ fn list(file: &[u8], rec: usize, at: usize, end: usize, table: &mut [u32]) -> Ro
     };
     let at = size.next;
     let mut tags = [0usize; 12];
-    let r = classes(file, rec, Span { at, end }, &mut tags, &mut *table, size.count);
+    let r = classes(
+        file,
+        rec,
+        Span { at, end },
+        &mut tags,
+        &mut *table,
+        size.count,
+    );
     close_at(r, end)
 }
 

@@ -30,8 +30,12 @@ returns c =
     let l = c .before .before .before .before .before .before .before .before .before .before .before .before .before .before .clear .kept in
     answer-many _ _ _ _ (c .before .before .before .before .before .before .before .before .before .before .read-record .ensures) {k = length (c
     .before .before .before .before .before .before .before .before .before .before .read-record .last .1 .1 .0)} (c .before .before .clear2
-    .ensures) (omega (arith, k .1 .1 .0, l .0)) (c .before .before .before .before .before .before .-next .given .1) (omega (arith, k .1 .1 .0, l
-    .0))
+    .ensures) (omega (arith, k .1 .1 .0, l .0)) (c .before .before .before .before .before .before .-next .given .1) (omega (
+      arith,
+      k .1 .1 .0,
+      l
+          .0,
+    ))
 
 finished-requires : tie.Need-finished-requires
 finished-requires c κs = search needs

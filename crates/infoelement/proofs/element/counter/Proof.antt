@@ -28,14 +28,19 @@ enum-told-2 c = search needs
 
 returns-2 : tie.Need-returns-2
 unfolding counterAt
-returns-2 c = go-on _ _ (c .before .before .before .before .before .before .numbers .ensures) (c .before .before .before .before .r .given .1) (halts _ (c .before .before .text .ensures) (c .enum-told2 .given .1))
+returns-2 c =
+    go-on _ _ (c .before .before .before .before .before .before .numbers .ensures) (c .before .before .before .before .r .given .1) (halts
+    _ (c .before .before .text .ensures) (c .enum-told2 .given .1))
 
 text-requires-2 : tie.Need-text-requires-2
 text-requires-2 c κs = search needs
 
 returns-3 : tie.Need-returns-3
 unfolding counterAt
-returns-3 c = go-on _ _ (c .before .before .before .before .before .before .before .before .numbers .ensures) (c .before .before .before .before .before .before .r .given .1) (go-on _ _ (c .before .before .before .before .text .ensures) (c .before .before .r2 .given .1) ((c .text2 .ensures)))
+returns-3 c =
+    go-on _ _ (c .before .before .before .before .before .before .before .before .numbers .ensures) (c .before .before .before .before
+    .before .before .r .given .1) (go-on _ _ (c .before .before .before .before .text .ensures) (c .before .before .r2 .given .1) ((c
+    .text2 .ensures)))
 
 pub counter-spec : {M : Type 1} → statement M
 counter-spec =

@@ -33,7 +33,11 @@ loop-less : tie.Need-loop-less Inv-loop μ-loop
 loop-less c = search needs
 
 loop-again : tie.Need-loop-again Inv-loop μ-loop
-loop-again c = (count-turn (c .before .before .before .before .before .loop .inv .0) (c .before .before .before .field .ensures) (c .before .r .given .1), omega arith)
+loop-again c = (
+  count-turn (c .before .before .before .before .before .loop .inv .0) (c .before .before .before .field .ensures) (c .before .r .given
+      .1),
+  omega arith,
+)
 
 returns-2 : tie.Need-returns-2 Inv-loop μ-loop
 returns-2 c = count-ended (c .before .loop .inv .0) _ (omega arith)

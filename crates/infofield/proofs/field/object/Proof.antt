@@ -33,7 +33,9 @@ enum-told-2 c = search needs
 
 returns-2 : tie.Need-returns-2
 unfolding objectAt
-returns-2 c = go-on _ _ (c .before .before .before .before .before .before .field .ensures) (c .before .before .before .before .r .given .1) (halts _ (c .before .before .field2 .ensures) (c .enum-told2 .given .1))
+returns-2 c =
+    go-on _ _ (c .before .before .before .before .before .before .field .ensures) (c .before .before .before .before .r .given .1) (halts _
+    (c .before .before .field2 .ensures) (c .enum-told2 .given .1))
 
 field-requires-3 : tie.Need-field-requires-3
 field-requires-3 c κs = search needs
@@ -46,18 +48,38 @@ enum-told-3 c = search needs
 
 returns-3 : tie.Need-returns-3
 unfolding objectAt
-returns-3 c = go-on _ _ (c .before .before .before .before .before .before .before .before .before .before .field .ensures) (c .before .before .before .before .before .before .before .before .r .given .1) (go-on _ _ (c .before .before .before .before .before .before .field2 .ensures) (c .before .before .before .before .r2 .given .1) (halts _ (c .before .before .field3 .ensures) (c .enum-told3 .given .1)))
+returns-3 c =
+    go-on _ _ (c .before .before .before .before .before .before .before .before .before .before .field .ensures) (c .before .before
+    .before .before .before .before .before .before .r .given .1) (go-on _ _ (c .before .before .before .before .before .before .field2
+    .ensures) (c .before .before .before .before .r2 .given .1) (halts _ (c .before .before .field3 .ensures) (c .enum-told3 .given .1)))
 
 be32-requires : tie.Need-be32-requires
 be32-requires c κs = search needs
 
 returns-4 : tie.Need-returns-4
 unfolding objectAt
-returns-4 c = go-on _ _ (c .before .before .before .before .before .before .before .before .before .before .before .before .before .field .ensures) (c .before .before .before .before .before .before .before .before .before .before .before .r .given .1) (go-on _ _ (c .before .before .before .before .before .before .before .before .before .field2 .ensures) (c .before .before .before .before .before .before .before .r2 .given .1) (go-on _ _ (c .before .before .before .before .before .field3 .ensures) (c .before .before .before .r3 .given .1) (rw (ne-eqb (numAt 4 (now (c .before .before .before .before .before .before .before .before .before .before .before .before .before .before .before .args .file)) (c .before .before .before .before .before .before .before .r2 .given .0 .0) / 16 % 2) 0 (λ h. omega (arith, c .before .be32 .ensures))))))
+returns-4 c =
+    go-on _ _ (c .before .before .before .before .before .before .before .before .before .before .before .before .before .field .ensures)
+    (c .before .before .before .before .before .before .before .before .before .before .before .r .given .1) (go-on _ _ (c .before .before
+    .before .before .before .before .before .before .before .field2 .ensures) (c .before .before .before .before .before .before .before
+    .r2 .given .1) (go-on _ _ (c .before .before .before .before .before .field3 .ensures) (c .before .before .before .r3 .given .1) (rw
+    (ne-eqb (numAt 4 (now (c .before .before .before .before .before .before .before .before .before .before .before .before .before
+    .before .before .args .file)) (c .before .before .before .before .before .before .before .r2 .given .0 .0) / 16 % 2) 0 (λ h. omega
+    (arith, c .before .be32 .ensures))))))
 
 returns-5 : tie.Need-returns-5
 unfolding objectAt
-returns-5 c = go-on _ _ (c .before .before .before .before .before .before .before .before .before .before .before .before .before .field .ensures) (c .before .before .before .before .before .before .before .before .before .before .before .r .given .1) (go-on _ _ (c .before .before .before .before .before .before .before .before .before .field2 .ensures) (c .before .before .before .before .before .before .before .r2 .given .1) (go-on _ _ (c .before .before .before .before .before .field3 .ensures) (c .before .before .before .r3 .given .1) (rw (eq-eqb (numAt 4 (now (c .before .before .before .before .before .before .before .before .before .before .before .before .before .before .before .args .file)) (c .before .before .before .before .before .before .before .r2 .given .0 .0) / 16 % 2) 0 (omega (arith, c .before .be32 .ensures))))))
+returns-5 c =
+    go-on _ _ (c .before .before .before .before .before .before .before .before .before .before .before .before .before .field .ensures)
+    (c .before .before .before .before .before .before .before .before .before .before .before .r .given .1) (go-on _ _ (c .before .before
+    .before .before .before .before .before .before .before .field2 .ensures) (c .before .before .before .before .before .before .before
+    .r2 .given .1) (go-on _ _ (c .before .before .before .before .before .field3 .ensures) (c .before .before .before .r3 .given .1) (rw
+    (eq-eqb (numAt 4 (now (c .before .before .before .before .before .before .before .before .before .before .before .before .before
+    .before .before .args .file)) (c .before .before .before .before .before .before .before .r2 .given .0 .0) / 16 % 2) 0 (omega (
+      arith,
+      c
+          .before .be32 .ensures,
+    ))))))
 
 pub object-spec : {M : Type 1} → statement M
 object-spec =

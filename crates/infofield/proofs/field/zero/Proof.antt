@@ -26,11 +26,17 @@ be32-requires c κs = search needs
 
 returns-2 : tie.Need-returns-2
 unfolding zeroAt
-returns-2 c = go-on _ _ (c .before .before .before .before .before .field .ensures) (c .before .before .before .r .given .1) (rw (ne-eqb (numAt 4 (now (c .before .before .before .before .before .before .before .args .file)) (c .before .before .before .before .before .before .before .args .at)) 0 (λ h. omega (arith, c .before .be32 .ensures))))
+returns-2 c =
+    go-on _ _ (c .before .before .before .before .before .field .ensures) (c .before .before .before .r .given .1) (rw (ne-eqb (numAt 4
+    (now (c .before .before .before .before .before .before .before .args .file)) (c .before .before .before .before .before .before
+    .before .args .at)) 0 (λ h. omega (arith, c .before .be32 .ensures))))
 
 returns-3 : tie.Need-returns-3
 unfolding zeroAt
-returns-3 c = go-on _ _ (c .before .before .before .before .before .field .ensures) (c .before .before .before .r .given .1) (rw (eq-eqb (numAt 4 (now (c .before .before .before .before .before .before .before .args .file)) (c .before .before .before .before .before .before .before .args .at)) 0 (omega (arith, c .before .be32 .ensures))))
+returns-3 c =
+    go-on _ _ (c .before .before .before .before .before .field .ensures) (c .before .before .before .r .given .1) (rw (eq-eqb (numAt 4
+    (now (c .before .before .before .before .before .before .before .args .file)) (c .before .before .before .before .before .before
+    .before .args .at)) 0 (omega (arith, c .before .be32 .ensures))))
 
 pub zero-spec : {M : Type 1} → statement M
 zero-spec =

@@ -17,8 +17,11 @@ part-first-zero-start c = search needs
 
 part-first-zero-end : tie.Need-part-first-zero-end
 part-first-zero-end c =
-    omega (arith, least-within (now (c .before .before .before .args .file)) (c .before .before .before .args .from) (c .before .before .before .args
-    .end) (c .before .least .ensures))
+    omega (
+      arith,
+      least-within (now (c .before .before .before .args .file)) (c .before .before .before .args .from) (c .before .before .before .args
+          .end) (c .before .least .ensures),
+    )
 
 first-zero-requires : tie.Need-first-zero-requires
 first-zero-requires c κs = search needs
@@ -35,8 +38,11 @@ returns-2 c =
 
 add-last : tie.Need-add-last
 add-last c =
-    omega (arith, zero-within _ _ _ (c .before .before .before .before .before .before .least .ensures) (c .before .before .before .first-zero
-    .ensures) (c .before .n .given .1))
+    omega (
+      arith,
+      zero-within _ _ _ (c .before .before .before .before .before .before .least .ensures) (c .before .before .before .first-zero
+          .ensures) (c .before .n .given .1),
+    )
 
 sub-class-of : tie.Need-sub-class-of
 sub-class-of c = search needs
@@ -46,16 +52,22 @@ part-class-of-start c = search needs
 
 part-class-of-end : tie.Need-part-class-of-end
 part-class-of-end c =
-    omega (arith, zero-within _ _ _ (c .before .before .before .before .before .before .least .ensures) (c .before .before .before .first-zero
-    .ensures) (c .before .n .given .1))
+    omega (
+      arith,
+      zero-within _ _ _ (c .before .before .before .before .before .before .least .ensures) (c .before .before .before .first-zero
+          .ensures) (c .before .n .given .1),
+    )
 
 class-of-requires : tie.Need-class-of-requires
 class-of-requires c κs = search needs
 
 add-t17 : tie.Need-add-t17
 add-t17 c =
-    omega (arith, zero-within _ _ _ (c .before .before .before .before .before .before .before .before .least .ensures) (c .before .before .before
-    .before .before .first-zero .ensures) (c .before .before .before .n .given .1))
+    omega (
+      arith,
+      zero-within _ _ _ (c .before .before .before .before .before .before .before .before .least .ensures) (c .before .before .before
+          .before .before .first-zero .ensures) (c .before .before .before .n .given .1),
+    )
 
 returns-3 : tie.Need-returns-3
 returns-3 c =

@@ -32,10 +32,12 @@ enum-known-number c = search needs
 
 returns-2 : tie.Need-returns-2
 unfolding arrayBody
-returns-2 c =
-    (ran-stop _ _ _ _ (opens _ _ _ (c .before .before .before .before .before .before .before .«open» .ensures) (c .before .before .before .before
-    .before .from .given .1) (halt-sized _ _ (c .before .before .before .read-collection .ensures) (c .before .number .given .1))), not-grown _ _ _
-    _)
+returns-2 c = (
+  ran-stop _ _ _ _ (opens _ _ _ (c .before .before .before .before .before .before .before .«open» .ensures) (c .before .before .before .before
+      .before .from .given .1) (halt-sized _ _ (c .before .before .before .read-collection .ensures) (c .before .number .given .1))),
+  not-grown _ _ _
+      _,
+)
 
 zero-requires : tie.Need-zero-requires
 zero-requires c κs = search needs
@@ -48,18 +50,24 @@ enum-known-number-2 c = search needs
 
 returns-3 : tie.Need-returns-3
 unfolding arrayBody
-returns-3 c =
-    (ran-stop _ _ _ _ (opens _ _ _ (c .before .before .before .before .before .before .before .before .before .before .before .«open» .ensures) (c
-    .before .before .before .before .before .before .before .before .before .from .given .1) (go-sized _ _ (c .before .before .before .before .before
-    .before .before .read-collection .ensures) (c .before .before .before .before .before .size .given .1) (halt _ _ (c .before .before .before .zero
-    .ensures) (c .before .number2 .given .1)))), not-grown _ _ _ _)
+returns-3 c = (
+  ran-stop _ _ _ _ (opens _ _ _ (c .before .before .before .before .before .before .before .before .before .before .before .«open» .ensures) (c
+      .before .before .before .before .before .before .before .before .before .from .given .1) (go-sized _ _ (c .before .before .before .before .before
+      .before .before .read-collection .ensures) (c .before .before .before .before .before .size .given .1) (halt _ _ (c .before .before .before .zero
+      .ensures) (c .before .number2 .given .1)))),
+  not-grown _ _ _ _,
+)
 
 elements-requires : tie.Need-elements-requires
 elements-requires c κs =
     let b = from-open _ _ _ (c .before .before .before .before .before .before .before .before .before .before .before .before .before .«open»
     .ensures) (c .before .before .before .before .before .before .before .before .before .before .before .from .given .1) in
-    omega (arith, b, c .before .before .before .before .before .before .before .before .before .before .before .before .before .before .before
-    .before .pre)
+    omega (
+      arith,
+      b,
+      c .before .before .before .before .before .before .before .before .before .before .before .before .before .before .before
+          .before .pre,
+    )
 
 close-at-requires : tie.Need-close-at-requires
 close-at-requires c κs = search needs
@@ -69,14 +77,16 @@ same-length c = search needs
 
 returns-4 : tie.Need-returns-4
 unfolding arrayBody
-returns-4 c =
-    (as-run _ _ _ _ _ (opens _ _ _ (c .before .before .before .before .before .before .before .before .before .before .before .before .before .before
-    .before .before .before .«open» .ensures) (c .before .before .before .before .before .before .before .before .before .before .before .before
-    .before .before .before .from .given .1) (go-sized _ _ (c .before .before .before .before .before .before .before .before .before .before .before
-    .before .before .read-collection .ensures) (c .before .before .before .before .before .before .before .before .before .before .before .size
-    .given .1) (go-on _ _ (c .before .before .before .before .before .before .before .before .before .zero .ensures) (c .before .before .before
-    .before .before .before .before .next .given .1) refl))) (ran-ends _ _ _ _ _ _ _ _ (c .before .before .before .elements .ensures .0) (c .close-at
-    .ensures)), grown-ends _ _ _ _ _ (c .before .before .before .elements .ensures .1) (c .close-at .ensures))
+returns-4 c = (
+  as-run _ _ _ _ _ (opens _ _ _ (c .before .before .before .before .before .before .before .before .before .before .before .before .before .before
+      .before .before .before .«open» .ensures) (c .before .before .before .before .before .before .before .before .before .before .before .before
+      .before .before .before .from .given .1) (go-sized _ _ (c .before .before .before .before .before .before .before .before .before .before .before
+      .before .before .read-collection .ensures) (c .before .before .before .before .before .before .before .before .before .before .before .size
+      .given .1) (go-on _ _ (c .before .before .before .before .before .before .before .before .before .zero .ensures) (c .before .before .before
+      .before .before .before .before .next .given .1) refl))) (ran-ends _ _ _ _ _ _ _ _ (c .before .before .before .elements .ensures .0) (c .close-at
+      .ensures)),
+  grown-ends _ _ _ _ _ (c .before .before .before .elements .ensures .1) (c .close-at .ensures),
+)
 
 pub array-body-spec : {M : Type 1} → statement M
 array-body-spec =

@@ -41,10 +41,12 @@ same-length c = search needs
 
 returns-2 : tie.Need-returns-2
 unfolding classAt
-returns-2 c =
-    (as-run _ _ _ _ _ (go-head _ _ (c .before .before .before .before .before .before .before .before .before .read-head .ensures) (c .before .before
-    .before .before .before .before .before .start .given .1) refl) (ran-ends _ _ _ _ _ _ _ _ (c .before .before .before .class-body .ensures .0) (c
-    .close-at .ensures)), grown-ends _ _ _ _ _ (c .before .before .before .class-body .ensures .1) (c .close-at .ensures))
+returns-2 c = (
+  as-run _ _ _ _ _ (go-head _ _ (c .before .before .before .before .before .before .before .before .before .read-head .ensures) (c .before .before
+      .before .before .before .before .before .start .given .1) refl) (ran-ends _ _ _ _ _ _ _ _ (c .before .before .before .class-body .ensures .0) (c
+      .close-at .ensures)),
+  grown-ends _ _ _ _ _ (c .before .before .before .class-body .ensures .1) (c .close-at .ensures),
+)
 
 pub class-spec : {M : Type 1} → statement M
 class-spec =

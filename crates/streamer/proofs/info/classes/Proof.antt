@@ -19,8 +19,13 @@ loop-holds c = (read-began _ _ _ _ _, (omega arith, omega arith))
 
 class-requires : tie.Need-class-requires Inv-loop μ-loop
 class-requires c κs =
-    omega (arith, c .before .before .before .loop .inv .1, c .before .before .before .before .before .before .pre, c .before .before .before .before
-    .before .before .fits)
+    omega (
+      arith,
+      c .before .before .before .loop .inv .1,
+      c .before .before .before .before .before .before .pre,
+      c .before .before .before .before
+          .before .before .fits,
+    )
 
 enum-known-r : tie.Need-enum-known-r Inv-loop μ-loop
 enum-known-r c = search needs
@@ -45,9 +50,18 @@ loop-less c = search needs
 loop-again : tie.Need-loop-again Inv-loop μ-loop
 loop-again c =
     let w = c .before .before .before .before .before .before .before .before .before .loop .inv in
-    let g = grown-by _ _ (c .before .before .before .before .before .class .ensures .1) (c .before .r .given .1) in
-    (read-more (w .0) _ (c .before .before .before .before .before .class .ensures .0) (c .before .r .given .1) (search needs), (omega arith, omega (arith, g, w
-    .1)))
+    let g = grown-by _ _ (c .before .before .before .before .before .class .ensures .1) (c .before .r .given .1) in (
+      read-more (w .0) _ (c .before .before .before .before .before .class .ensures .0) (c .before .r .given .1) (search needs),
+      (
+        omega arith,
+        omega (
+          arith,
+          g,
+          w
+              .1,
+        ),
+      ),
+    )
 
 same-length-2 : tie.Need-same-length-2 Inv-loop μ-loop
 same-length-2 c = c .before .loop .inv .0 .table

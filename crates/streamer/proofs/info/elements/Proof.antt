@@ -30,9 +30,11 @@ same-length : tie.Need-same-length Inv-loop μ-loop
 same-length c = search needs
 
 returns : tie.Need-returns Inv-loop μ-loop
-returns c =
-    (read-stopped (c .before .before .before .before .before .before .before .before .loop .inv .0) _ _ _ _ (omega arith) (c .before .before .before
-    .before .element .ensures .0) (c .enum-told .given .1), wrong-grown _ _ 0 0 (c .enum-told .given .1))
+returns c = (
+  read-stopped (c .before .before .before .before .before .before .before .before .loop .inv .0) _ _ _ _ (omega arith) (c .before .before .before
+      .before .element .ensures .0) (c .enum-told .given .1),
+  wrong-grown _ _ 0 0 (c .enum-told .given .1),
+)
 
 add-i : tie.Need-add-i Inv-loop μ-loop
 add-i c = search needs
@@ -43,9 +45,18 @@ loop-less c = search needs
 loop-again : tie.Need-loop-again Inv-loop μ-loop
 loop-again c =
     let w = c .before .before .before .before .before .before .before .before .before .loop .inv in
-    let g = grown-by _ _ (c .before .before .before .before .before .element .ensures .1) (c .before .r .given .1) in
-    (read-more (w .0) _ (c .before .before .before .before .before .element .ensures .0) (c .before .r .given .1) (search needs), (omega arith, omega (arith, g, w
-    .1)))
+    let g = grown-by _ _ (c .before .before .before .before .before .element .ensures .1) (c .before .r .given .1) in (
+      read-more (w .0) _ (c .before .before .before .before .before .element .ensures .0) (c .before .r .given .1) (search needs),
+      (
+        omega arith,
+        omega (
+          arith,
+          g,
+          w
+              .1,
+        ),
+      ),
+    )
 
 same-length-2 : tie.Need-same-length-2 Inv-loop μ-loop
 same-length-2 c = c .before .loop .inv .0 .table

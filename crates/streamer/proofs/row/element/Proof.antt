@@ -36,10 +36,12 @@ enum-known-number-2 c = search needs
 
 returns-2 : tie.Need-returns-2
 unfolding elementAt
-returns-2 c =
-    (ran-stop _ _ _ _ (go-head _ _ (c .before .before .before .before .before .before .before .before .read-head .ensures) (c .before .before .before
-    .before .before .before .start .given .1) (halt-fields _ _ (as-kind _ _ _ _ _ (c .before .before .before .read-member .ensures) (c .before
-    .before .before .before .offset .ensures)) (c .before .number2 .given .1))), not-grown _ _ _ _)
+returns-2 c = (
+  ran-stop _ _ _ _ (go-head _ _ (c .before .before .before .before .before .before .before .before .read-head .ensures) (c .before .before .before
+      .before .before .before .start .given .1) (halt-fields _ _ (as-kind _ _ _ _ _ (c .before .before .before .read-member .ensures) (c .before
+      .before .before .before .offset .ensures)) (c .before .number2 .given .1))),
+  not-grown _ _ _ _,
+)
 
 ended-requires : tie.Need-ended-requires
 ended-requires c κs = search needs
@@ -52,12 +54,14 @@ enum-known-number-3 c = search needs
 
 returns-3 : tie.Need-returns-3
 unfolding elementAt
-returns-3 c =
-    (ran-stop _ _ _ _ (go-head _ _ (c .before .before .before .before .before .before .before .before .before .before .before .before .read-head
-    .ensures) (c .before .before .before .before .before .before .before .before .before .before .start .given .1) (go-fields _ _ (as-kind _ _ _ _ _
-    (c .before .before .before .before .before .before .before .read-member .ensures) (c .before .before .before .before .before .before .before
-    .before .offset .ensures)) (c .before .before .before .before .before .m .given .1) (halt _ _ (c .before .before .before .ended .ensures) (c
-    .before .number3 .given .1)))), not-grown _ _ _ _)
+returns-3 c = (
+  ran-stop _ _ _ _ (go-head _ _ (c .before .before .before .before .before .before .before .before .before .before .before .before .read-head
+      .ensures) (c .before .before .before .before .before .before .before .before .before .before .start .given .1) (go-fields _ _ (as-kind _ _ _ _ _
+      (c .before .before .before .before .before .before .before .read-member .ensures) (c .before .before .before .before .before .before .before
+      .before .offset .ensures)) (c .before .before .before .before .before .m .given .1) (halt _ _ (c .before .before .before .ended .ensures) (c
+      .before .number3 .given .1)))),
+  not-grown _ _ _ _,
+)
 
 mul-tags : tie.Need-mul-tags
 mul-tags c =
@@ -83,32 +87,42 @@ row-of-requires c κs =
     .read-head .ensures) (c .before .before .before .before .before .before .before .before .before .before .before .start .given .1) in
     let m = member-below _ _ _ _ (c .before .before .before .before .before .before .before .before .read-member .ensures) (c .before .before .before
     .before .before .before .m .given .1) in
-    omega (arith, h, m, c .before .before .before .before .before .before .before .before .before .before .before .before .before .before .before
-    .before .before .before .pre)
+    omega (
+      arith,
+      h,
+      m,
+      c .before .before .before .before .before .before .before .before .before .before .before .before .before .before .before
+          .before .before .before .pre,
+    )
 
 put-row-requires : tie.Need-put-row-requires
 put-row-requires c κs = search needs
 
 add-t30 : tie.Need-add-t30
 add-t30 c =
-    omega (arith, c .before .before .before .before .before .before .before .before .before .before .before .before .before .before .before .before
-    .before .before .before .before .before .before .pre)
+    omega (
+      arith,
+      c .before .before .before .before .before .before .before .before .before .before .before .before .before .before .before .before
+          .before .before .before .before .before .before .pre,
+    )
 
 same-length : tie.Need-same-length
 same-length c = search needs
 
 returns-4 : tie.Need-returns-4
 unfolding elementAt
-returns-4 c =
-    (one-row _ _ (go-head _ _ (c .before .before .before .before .before .before .before .before .before .before .before .before .before .before
-    .before .before .before .read-head .ensures) (c .before .before .before .before .before .before .before .before .before .before .before .before
-    .before .before .before .start .given .1) (go-fields _ _ (as-kind _ _ _ _ _ (c .before .before .before .before .before .before .before .before
-    .before .before .before .before .read-member .ensures) (c .before .before .before .before .before .before .before .before .before .before .before
-    .before .before .offset .ensures)) (c .before .before .before .before .before .before .before .before .before .before .m .given .1) (go-on _ _ (c
-    .before .before .before .before .before .before .before .before .ended .ensures) (c .before .before .before .before .before .before .next .given
-    .1) refl))) (row-kind _ (c .before .before .before .before .before .before .before .before .before .before .m .given .0 .0) (c .before .before
-    .before .row-of .ensures) (c .before .before .before .before .before .before .before .before .before .before .before .before .before .offset
-    .ensures)) (c .before .before .put-row .ensures), is-grown _ _ _ _ (omega arith))
+returns-4 c = (
+  one-row _ _ (go-head _ _ (c .before .before .before .before .before .before .before .before .before .before .before .before .before .before
+      .before .before .before .read-head .ensures) (c .before .before .before .before .before .before .before .before .before .before .before .before
+      .before .before .before .start .given .1) (go-fields _ _ (as-kind _ _ _ _ _ (c .before .before .before .before .before .before .before .before
+      .before .before .before .before .read-member .ensures) (c .before .before .before .before .before .before .before .before .before .before .before
+      .before .before .offset .ensures)) (c .before .before .before .before .before .before .before .before .before .before .m .given .1) (go-on _ _ (c
+      .before .before .before .before .before .before .before .before .ended .ensures) (c .before .before .before .before .before .before .next .given
+      .1) refl))) (row-kind _ (c .before .before .before .before .before .before .before .before .before .before .m .given .0 .0) (c .before .before
+      .before .row-of .ensures) (c .before .before .before .before .before .before .before .before .before .before .before .before .before .offset
+      .ensures)) (c .before .before .put-row .ensures),
+  is-grown _ _ _ _ (omega arith),
+)
 
 pub element-spec : {M : Type 1} → statement M
 element-spec =
