@@ -1,5 +1,6 @@
 // Fields, ByteCounts and ends of objects (document 002).
 ghost use mathlib.Core.Path.{_≡_};
+ghost use Prim.Native.Nat.{_-_};
 ghost use Rattle.wire.specs.Lent.{before};
 ghost use Rattle.infofield.specs.Field.{countAt, fieldAt, versionedAt, numbersAt, textFieldAt, unnamedAt};
 ghost use Rattle.infofield.specs.Field.{objectAt, endedAt, zeroAt};
@@ -29,6 +30,16 @@ pub struct Body {
 pub enum Opened {
     Held(Body),
     Wrong(u32, usize),
+}
+
+// How far a place lies behind another.
+pub fn offset(from: usize, at: usize) -> usize
+    ensures { λ r. ⌜ r ≡ at - from ⌝ }
+{
+    if at < from {
+        return 0;
+    }
+    at - from
 }
 
 // The ByteCount at a place, within the innermost open end.

@@ -1,12 +1,12 @@
 // Class tags (document 002, ClassInfo).
 ghost use mathlib.Core.Path.{_≡_};
-ghost use Prim.Native.Nat.{_-_};
 ghost use lib.ListN.{getD};
 ghost use Rattle.wire.specs.Lent.{before};
 ghost use Rattle.infotag.specs.Tag.{firstIn, classOf, classNameAt, newTag, oldTag, tagAt, headAt};
 use infofield::field::Count;
 use infofield::field::Step;
 use infofield::field::field;
+use infofield::field::offset;
 use infofield::field::open;
 use wire::number::be32;
 use wire::number::least;
@@ -138,16 +138,6 @@ fn class_at(file: &[u8], from: usize, end: usize) -> Class
     };
     let last = from + n;
     Class::Named(class_of(&file[from..last]), last + 1)
-}
-
-// How far a place lies behind another.
-pub fn offset(from: usize, at: usize) -> usize
-    ensures { λ r. ⌜ r ≡ at - from ⌝ }
-{
-    if at < from {
-        return 0;
-    }
-    at - from
 }
 
 // A new tag, whose name starts at a place.

@@ -11,8 +11,8 @@ use infoelement::element::Member;
 use infoelement::element::read_member;
 use infofield::field::Step;
 use infofield::field::ended;
+use infofield::field::offset;
 use infotag::tag::Head;
-use infotag::tag::offset;
 use infotag::tag::read_head;
 
 // A row: class index, kind, offsets of the name's and the type name's length byte, fType and fArrayLength.
