@@ -3,7 +3,7 @@ use Prim.Native.Nat.{ℕ, _≤_}
 use mathlib.Core.List.{List}
 use mathlib.Core.Path.{_≡_, refl, sym, _∙_}
 use native.Mathlib.Omega.{arith}
-use Rattle.infofield.specs.Field.{andThen, numbersAt, versionedAt, endedAt, textFieldAt, objectAt}
+use Rattle.infofield.specs.Field.{numbersAt, versionedAt, endedAt, textFieldAt, objectAt}
 use Rattle.infofield.proofs.Steps.{each-step, each-opened, from-versioned, text-below}
 use Rattle.infoelement.specs.Element.{namedAt, withName, detailsAt, baseAt, withFields, ownAt, memberAt, movedTo}
 use Rattle.infoelement.specs.declared.element.Name.{Name}

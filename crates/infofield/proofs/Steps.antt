@@ -3,7 +3,7 @@ use Prim.Native.Nat.{ℕ, zero, suc, _+_, _-_, _<_, _≤_}
 use mathlib.Core.List.{List}
 use mathlib.Core.Bool.{Bool, true, false}
 use lib.Dec.{leb}
-use mathlib.Core.Path.{_≡_, refl, sym, ap, _∙_}
+use mathlib.Core.Path.{_≡_, refl, sym, _∙_}
 use native.Mathlib.Omega.{arith}
 use native.Mathlib.Nat.{suc-add, zero-add}
 use native.Mathlib.Numerals.{add-one}
@@ -54,6 +54,12 @@ pub opens-not : {A : Type 0} (w : ℕ → ℕ → A) (p : ℕ) (f : ℕ → ℕ 
 unfolding counted
 opens-not w p f d g = rw (sym d ∙ g)
 
+pub each-count : {A : Type 0} (w : ℕ → ℕ → A) (p : ℕ) (f : ℕ → ℕ → A) (P : A → Type 0) → P (w 21 p) → (x : Count)
+    → ((q e : ℕ) → x ≡ Open q e → P (f q e)) → P (counted w x p f)
+unfolding counted
+each-count w p f P h (Open q e) g = g q e refl
+each-count w p f P h Bad g = h
+
 -- one field
 pub field-out : (n p e : ℕ) → e < p + n → Wrong 21 p ≡ fieldAt n p e
 unfolding fieldAt
@@ -62,14 +68,6 @@ field-out n p e h = rw (lt-leb (p + n) e h)
 pub field-in : (n p e : ℕ) → p + n ≤ e → Next (p + n) ≡ fieldAt n p e
 unfolding fieldAt
 field-in n p e h = rw (le-leb (p + n) e h)
-
-pub field-within : (n p e : ℕ) {y : Step} {q : ℕ} → y ≡ fieldAt n p e → y ≡ Next q → (q ≡ p + n) × (q ≤ e)
-unfolding fieldAt
-field-within n p e {y} {q} d g = go (leb (p + n) e) refl
-  where
-    go : (b : Bool) → leb (p + n) e ≡ b → (q ≡ p + n) × (q ≤ e)
-    go true h = let k : Next q ≡ Next (p + n) = (sym g ∙ d) ∙ rw h in let i : q ≡ p + n = cc in omega (arith, leb-true (p + n) e h)
-    go false h = let k : Next q ≡ Wrong 21 p = (sym g ∙ d) ∙ rw h in let z : _≡_ {A = ℕ} 0 1 = cc in absurd (omega arith)
 
 -- ends
 pub not-ended : (p e : ℕ) → (p ≡ e → ⊥) → Wrong 21 p ≡ endedAt p e
@@ -123,12 +121,9 @@ module _ (s : List ℕ) (p e : ℕ) where
   unfolding countAt
   no-count h = sym (not-picked (counts s p e) _ _ h)
 
-  pub count-is : All (counts s p e) → Open (p + 4) (endOf s p) ≡ countAt s p e
-  unfolding countAt
-  count-is h = sym (picked (counts s p e) _ _ h)
-
   pub count-as : {a b : ℕ} → a ≡ p + 4 → b ≡ endOf s p → All (counts s p e) → Open a b ≡ countAt s p e
-  count-as i j h = rw (i, j) (count-is h)
+  unfolding countAt
+  count-as i j h = rw (i, j) (sym (picked (counts s p e) _ _ h))
 
   -- the place after a ByteCount lies at or before the object's end, and that before the innermost open end
   pub from-open : {y : Count} {q f : ℕ} → y ≡ countAt s p e → y ≡ Open q f → (q ≡ p + 4) × (q ≤ f) × (f ≤ e)
@@ -157,25 +152,19 @@ unfolding versioned
 each-opened w f P h (opened.Held b) g = g b refl
 each-opened w f P h (opened.Wrong c p) g = h c p
 
-closeIn : Opened → ℕ
-closeIn (opened.Held b) = b .close
-closeIn (opened.Wrong c p) = 0
-
 -- its end is at or before the innermost open end
-pub from-versioned : (s : List ℕ) (p e : ℕ) {y : Opened} {b : Body} → y ≡ versionedAt s p e → y ≡ opened.Held b → b .close ≤ e
-unfolding versionedAt counted andThen closeIn
-from-versioned s p e {y} {b} d g = go (countAt s p e) refl (sym d ∙ g)
-  where
-    on : (f : ℕ) → f ≤ e → (x : Step)
-        → andThen opened.Wrong x (λ a. opened.Held (record { from = a; close = f })) ≡ opened.Held b → b .close ≤ e
-    on f l (Next n) i = let j : f ≡ b .close = ap closeIn i in omega arith
-    on f l (Wrong c n) i = let z : _≡_ {A = ℕ} 0 1 = cc in absurd (omega arith)
+abbrev ClosesBy : ℕ → Opened → Type 0
+ClosesBy e (opened.Held b) = b .close ≤ e
+ClosesBy e (opened.Wrong c p) = Unit
 
-    go : (x : Count) → x ≡ countAt s p e
-        → counted opened.Wrong x p (λ q f. andThen opened.Wrong (fieldAt 2 q f) (λ a. opened.Held (record { from = a; close = f })))
-        ≡ opened.Held b → b .close ≤ e
-    go (Open q f) i j = on f (from-open s p e i refl .2) (fieldAt 2 q f) j
-    go Bad i j = let z : _≡_ {A = ℕ} 0 1 = cc in absurd (omega arith)
+closes-by : (s : List ℕ) (p e : ℕ) → ClosesBy e (versionedAt s p e)
+unfolding versionedAt
+closes-by s p e =
+    each-count _ _ _ (ClosesBy e) tt (countAt s p e) (λ q f i.
+    each-step _ _ (ClosesBy e) (λ c r. tt) (fieldAt 2 q f) (λ a j. from-open s p e refl i .2))
+
+pub from-versioned : (s : List ℕ) (p e : ℕ) {y : Opened} {b : Body} → y ≡ versionedAt s p e → y ≡ opened.Held b → b .close ≤ e
+from-versioned s p e d g = rw (sym d ∙ g) at (closes-by s p e)
 
 -- numbers in a row: place is where the first i of them end
 pub record Counting (at end i place : ℕ) : Type 0 where

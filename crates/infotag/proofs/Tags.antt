@@ -1,17 +1,17 @@
 -- Tags: what is answered, from facts, and what an answer says.
-use Prim.Native.Nat.{ℕ, _+_, _-_, _<_, _≤_}
+use Prim.Native.Nat.{ℕ, _-_, _<_, _≤_}
 use mathlib.Core.List.{List}
 use mathlib.Core.Bool.{Bool, true, false}
-use mathlib.Core.Path.{_≡_, refl, sym, ap, _∙_}
+use mathlib.Core.Path.{_≡_, refl, sym, _∙_}
+use mathlib.Core.Logic.{⊎-elim}
 use native.Mathlib.Omega.{arith}
 use borrow.Author.Tests.{eq-eqb, ne-eqb, le-leb, lt-leb}
-use lib.ListN.{take, drop}
 use lib.Dec.{leb, eqb}
-use Rattle.wire.specs.Check.{All, pick}
+use Rattle.wire.specs.Check.{Check, all, All, pick}
 use Rattle.wire.specs.Number.{numAt}
-use Rattle.wire.proofs.Checks.{picked, not-picked, from-picked}
+use Rattle.wire.proofs.Checks.{yes-all, not-all, all-or, picked, not-picked}
 use Rattle.infofield.specs.Field.{andThen, fieldAt, countAt, counted}
-use Rattle.infofield.proofs.Steps.{from-open}
+use Rattle.infofield.proofs.Steps.{each-step, each-count, from-open}
 use Rattle.infotag.specs.Tag.{firstIn, classNameAt, allowed, fresh, onName, newTag, onOffset, oldTag, tagAt, onTag, headAt, headed}
 use Rattle.infofield.specs.declared.field.Step.{Step}
 use Rattle.infofield.specs.declared.field.Step.the-variants as step
@@ -93,74 +93,61 @@ module _ (s : List ℕ) (rec p e low high : ℕ) (ts : List ℕ) {y : Count} (is
   head-is g d i = rw (sym is ∙ g, sym d ∙ i)
 
 -- the class of a tag is at most high
-new-high : (s : List ℕ) (rec p q e low high : ℕ) (ts : List ℕ) {c o r : ℕ} → newTag s rec p q e low high ts ≡ Known c o r → c ≤ high
+abbrev High : ℕ → Tag → Type 0
+High high (Known c o r) = c ≤ high
+High high (Wrong c p) = Unit
+
+picked-high : (high : ℕ) (cs : List Check) (a : Tag) (p : ℕ) → (All cs → High high a) → High high (pick (all cs) a (Wrong 22 p))
+picked-high high cs a p h =
+    ⊎-elim (λ (f : All cs). rw (yes-all cs f) (h f)) (λ (f : All cs → ⊥). rw (not-all cs f) tt) (all-or cs)
+
+new-high : (s : List ℕ) (rec p q e low high : ℕ) (ts : List ℕ) → High high (newTag s rec p q e low high ts)
 unfolding newTag
-new-high s rec p q e low high ts {c} {o} {r} g = go (classNameAt s q e) g
+new-high s rec p q e low high ts = go (classNameAt s q e)
   where
-    go : (x : Class) → onName x rec p low high ts ≡ Known c o r → c ≤ high
-    go Cut i = let z : _≡_ {A = ℕ} 0 1 = cc in absurd (omega arith)
-    go (Named k n) i =
-        let h = from-picked (fresh ts low high k) (Known k (p - rec) n) (Wrong 22 p) (sym i)
-        (λ j. let z : _≡_ {A = ℕ} 0 1 = cc in omega arith) in
-        let a = h .0 in
-        let b : k ≡ c = cc in
-        omega (arith, h .1 .1 .0)
+    go : (x : Class) → High high (onName x rec p low high ts)
+    go Cut = tt
+    go (Named c r) = picked-high high (fresh ts low high c) (Known c (p - rec) r) p (λ h. h .1 .0)
 
-old-high : (v p q low high : ℕ) (ts : List ℕ) {c o r : ℕ} → oldTag v p q low high ts ≡ Known c o r → c ≤ high
+old-high : (v p q low high : ℕ) (ts : List ℕ) → High high (oldTag v p q low high ts)
 unfolding oldTag
-old-high v p q low high ts {c} {o} {r} g = go (leb v 2147483650) g
+old-high v p q low high ts = go (leb v 2147483650)
   where
-    at : (x : First) → onOffset x (v - 2147483650) p q low high ≡ Known c o r → c ≤ high
-    at Nowhere i = let z : _≡_ {A = ℕ} 0 1 = cc in absurd (omega arith)
-    at (At k) i =
-        let h = from-picked (allowed low high k) (Known k (v - 2147483650) q) (Wrong 22 p) (sym i) (λ j. let z : _≡_ {A = ℕ} 0 1 = cc in omega arith) in
-        let a = h .0 in
-        let b : k ≡ c = cc in
-        omega (arith, h .1 .1 .0)
+    at : (x : First) → High high (onOffset x (v - 2147483650) p q low high)
+    at Nowhere = tt
+    at (At c) = picked-high high (allowed low high c) (Known c (v - 2147483650) q) p (λ h. h .1 .0)
 
-    go : (b : Bool) → pick b (Wrong 22 p) (onOffset (firstIn ts (v - 2147483650)) (v - 2147483650) p q low high) ≡ Known c o r → c ≤ high
-    go true i = let z : _≡_ {A = ℕ} 0 1 = cc in absurd (omega arith)
-    go false i = at (firstIn ts (v - 2147483650)) i
+    go : (b : Bool) → High high (pick b (Wrong 22 p) (onOffset (firstIn ts (v - 2147483650)) (v - 2147483650) p q low high))
+    go true = tt
+    go false = at (firstIn ts (v - 2147483650))
 
-tag-high : (s : List ℕ) (rec p e low high : ℕ) (ts : List ℕ) {c o r : ℕ} → tagAt s rec p e low high ts ≡ Known c o r → c ≤ high
-unfolding tagAt andThen
-tag-high s rec p e low high ts {c} {o} {r} g = go (fieldAt 4 p e) g
+tag-high : (s : List ℕ) (rec p e low high : ℕ) (ts : List ℕ) → High high (tagAt s rec p e low high ts)
+unfolding tagAt
+tag-high s rec p e low high ts =
+    each-step _ _ (High high) (λ c r. tt) (fieldAt 4 p e) (λ q i. by q (eqb (numAt 4 s p) 4294967295))
   where
-    by : (q : ℕ) (b : Bool) → pick b (newTag s rec p q e low high ts) (oldTag (numAt 4 s p) p q low high ts) ≡ Known c o r → c ≤ high
-    by q true i = new-high s rec p q e low high ts i
-    by q false i = old-high (numAt 4 s p) p q low high ts i
-
-    go : (x : Step)
-        → andThen Wrong x (λ q. pick (eqb (numAt 4 s p) 4294967295) (newTag s rec p q e low high ts) (oldTag (numAt 4 s p) p q low high ts))
-        ≡ Known c o r → c ≤ high
-    go (step.Next q) i = by q (eqb (numAt 4 s p) 4294967295) i
-    go (step.Wrong a b) i = let z : _≡_ {A = ℕ} 0 1 = cc in absurd (omega arith)
-
-classIn : Head → ℕ
-classIn (head.Known h) = h .class
-classIn (head.Wrong c p) = 0
-
-closeIn : Head → ℕ
-closeIn (head.Known h) = h .close
-closeIn (head.Wrong c p) = 0
+    by : (q : ℕ) (b : Bool) → High high (pick b (newTag s rec p q e low high ts) (oldTag (numAt 4 s p) p q low high ts))
+    by q true = new-high s rec p q e low high ts
+    by q false = old-high (numAt 4 s p) p q low high ts
 
 -- an object's class is at most high, and its end is at or before the innermost open end
-pub head-bounds : (s : List ℕ) (rec p e low high : ℕ) (ts : List ℕ) {y : Head} {h : Start} → y ≡ headAt s rec p e low high ts → y ≡ head.Known h
-    → (h .class ≤ high) × (h .close ≤ e)
-unfolding headAt counted classIn closeIn
-head-bounds s rec p e low high ts {y} {h} d g = go (countAt s p e) refl (sym d ∙ g)
-  where
-    on : (q f : ℕ) → f ≤ e → (x : Tag) → x ≡ tagAt s rec q f low high ts → onTag x f ≡ head.Known h → (h .class ≤ high) × (h .close ≤ e)
-    on q f l (Known c o r) i j =
-        let a : c ≡ h .class = ap classIn j in
-        let b : f ≡ h .close = ap closeIn j in
-        omega (arith, tag-high s rec q f low high ts (sym i))
-    on q f l (Wrong a b) i j = let z : _≡_ {A = ℕ} 0 1 = cc in absurd (omega arith)
+abbrev Bounded : ℕ → ℕ → Head → Type 0
+Bounded high e (head.Known h) = (h .class ≤ high) × (h .close ≤ e)
+Bounded high e (head.Wrong c p) = Unit
 
-    go : (x : Count) → x ≡ countAt s p e → counted head.Wrong x p (λ q f. onTag (tagAt s rec q f low high ts) f) ≡ head.Known h
-        → (h .class ≤ high) × (h .close ≤ e)
-    go (Open q f) i j = on q f (from-open s p e i refl .2) (tagAt s rec q f low high ts) refl j
-    go Bad i j = let z : _≡_ {A = ℕ} 0 1 = cc in absurd (omega arith)
+bounded : (s : List ℕ) (rec p e low high : ℕ) (ts : List ℕ) → Bounded high e (headAt s rec p e low high ts)
+unfolding headAt
+bounded s rec p e low high ts =
+    each-count _ _ _ (Bounded high e) tt (countAt s p e) (λ q f i.
+    on f (from-open s p e refl i .2) (tagAt s rec q f low high ts) (tag-high s rec q f low high ts))
+  where
+    on : (f : ℕ) → f ≤ e → (x : Tag) → High high x → Bounded high e (onTag x f)
+    on f l (Known c o r) h = (h, l)
+    on f l (Wrong c r) h = tt
+
+pub head-bounds : (s : List ℕ) (rec p e low high : ℕ) (ts : List ℕ) {y : Head} {h : Start} → y ≡ headAt s rec p e low high ts
+    → y ≡ head.Known h → (h .class ≤ high) × (h .close ≤ e)
+head-bounds s rec p e low high ts d g = rw (sym d ∙ g) at (bounded s rec p e low high ts)
 
 -- an object's head was read, or not
 module _ {A : Type 0} (w : ℕ → ℕ → A) (f : Start → A) where

@@ -51,9 +51,9 @@ pub grown-by : (n k : ℕ) {a : Rows} {q m : ℕ} → Grown n k a → a ≡ Next
 unfolding Grown
 grown-by n k h e = rw e at h
 
-pub wrong-grown : (n k j l : ℕ) {a : Rows} {c p : ℕ} → a ≡ Wrong c p → Grown n k a
+pub wrong-grown : (n k : ℕ) {a : Rows} {c p : ℕ} → a ≡ Wrong c p → Grown n k a
 unfolding Grown
-wrong-grown n k j l e = rw e tt
+wrong-grown n k e = rw e tt
 
 -- one row
 pub one-row : {run : Run} {ts : List ℕ} {r r′ : Row} {p : ℕ} (t : List ℕ) (n : ℕ) {u : List ℕ} → going ts (r′ ∷ []) p ≡ run

@@ -1,11 +1,10 @@
 -- Rows written one after the other.
 use Prim.Native.Nat.{ℕ, zero, suc, _+_, _-_, _*_, _/_, _<_, _≤_}
 use mathlib.Core.List.{List, [], _∷_, _++_}
-use mathlib.Core.Bool.{Bool, true, false}
 use mathlib.Core.Path.{_≡_, refl, sym, _∙_}
 use native.Mathlib.Nat.{add-zero, zero-add}
 use native.Mathlib.Omega.{arith}
-use borrow.Author.Tests.{le-leb, lt-leb, leb-true}
+use borrow.Author.Tests.{le-leb, lt-leb}
 use borrow.Rule.Slice.PartMut.{midOf, putMid}
 use lib.Dec.{leb}
 use lib.ListN.{length, drop, replicate, length-replicate}
@@ -28,14 +27,6 @@ unfolding putRow
 row-put t ys n r h e = rw (le-leb (n * 6 + 6) (length t) (omega arith)) (patch-part t ys (six r) (n * 6) (omega arith) e)
 
 -- rows
-pub length-row : (t : List ℕ) (n : ℕ) (r : Row) → length (putRow t n r) ≡ length t
-unfolding putRow
-length-row t n r = go (leb (n * 6 + 6) (length t)) refl
-  where
-    go : (b : Bool) → leb (n * 6 + 6) (length t) ≡ b → length (pick b (patch t (n * 6) (six r)) t) ≡ length t
-    go true e = length-patch t (n * 6) (six r) (leb-true _ _ e)
-    go false e = refl
-
 pub more-rows : (t : List ℕ) (n : ℕ) (rs ss : List Row) → putRows (putRows t n rs) (n + length rs) ss ≡ putRows t n (rs ++ ss)
 unfolding putRows
 more-rows t n [] ss = rw add-zero

@@ -1,5 +1,4 @@
 use Rattle.infotag.proofs.Words.{least-within, nothing-there, no-zero, zero-within, class-named}
-use Prim.Native.Nat.{_+_, _-_}
 use denote.Ref.{now}
 use native.Mathlib.Omega.{arith}
 use borrow.Author.Needs.{needs}

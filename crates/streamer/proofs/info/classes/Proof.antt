@@ -1,6 +1,5 @@
 use Rattle.streamer.proofs.Runs.{Reading, read-began, read-more, read-ended, read-stopped, grown-by}
 use Rattle.streamer.specs.Info.{classAt, ownerOf}
-use mathlib.Core.Path.{_∙_}
 use native.Mathlib.Omega.{arith}
 use Prim.Native.Nat.{ℕ, _*_, _-_, _≤_}
 use borrow.Author.Needs.{needs}

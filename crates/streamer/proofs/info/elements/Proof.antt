@@ -1,6 +1,5 @@
 use Rattle.streamer.proofs.Runs.{Reading, read-began, read-more, read-ended, read-stopped, grown-by, is-grown, wrong-grown}
 use Rattle.streamer.specs.Row.{elementAt}
-use mathlib.Core.Path.{_∙_}
 use native.Mathlib.Omega.{arith}
 use Prim.Native.Nat.{ℕ, _+_, _-_, _≤_}
 use borrow.Author.Needs.{needs}
@@ -33,7 +32,7 @@ returns : tie.Need-returns Inv-loop μ-loop
 returns c = (
   read-stopped (c .before .before .before .before .before .before .before .before .loop .inv .0) _ _ _ _ (omega arith) (c .before .before .before
       .before .element .ensures .0) (c .enum-told .given .1),
-  wrong-grown _ _ 0 0 (c .enum-told .given .1),
+  wrong-grown _ _ (c .enum-told .given .1),
 )
 
 add-i : tie.Need-add-i Inv-loop μ-loop
