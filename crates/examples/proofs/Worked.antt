@@ -5,25 +5,25 @@ use mathlib.Core.List.{List, [], _∷_, _++_}
 use mathlib.Core.Path.{_≡_, refl}
 use lib.ListN.{length, set, replicate}
 use Rattle.wire.specs.Check.{Check, eq, yes, all}
-use Rattle.date.specs.Date.{packed, packAnswer}
+use Rattle.wire.specs.Date.{packed, packAnswer}
 use Rattle.wire.specs.Equal.{eqBytes}
 use Rattle.wire.specs.Number.{beValue, numAt, signedOf}
-use Rattle.wire.specs.Text.{textSize, textOf, textAt, textIn, contentOf}
-use Rattle.date.specs.declared.Date.{Date}
-use Rattle.key.specs.Header.{keyAt, namesIn, sumOf, headerIn}
+use Rattle.wire.specs.Text.{textAt, textIn, contentOf}
+use Rattle.wire.specs.declared.date.Date.{Date}
+use Rattle.key.specs.Header.{keyAt, namesAt, sumOf, headerIn}
 use Rattle.key.specs.Piece.{sizeAt, recordThere, pieceAt, pieceAnswer}
-use Rattle.key.specs.declared.header.Header.{Header}
-use Rattle.key.specs.declared.header.Header.the-variants.{Good, Bad}
 use Rattle.layout.specs.File.{openedAs}
 use Rattle.layout.specs.Keys.{copyIn}
 use Rattle.rules.specs.Order.{verdict, numberOf}
 use Rattle.rules.specs.Row.{starts}
 use Rattle.rules.specs.Turn.{Turn, going, stop, copyTurn}
-use Rattle.streamer.specs.Field.{andThen, fieldAt, numbersAt, endOf, countAt, counted, endedAt, textFieldAt, unnamedAt, zeroAt, objectAt}
-use Rattle.streamer.specs.Tag.{firstIn, classIn, classOf, newTag, oldTag, tagAt, headAt, headed}
-use Rattle.streamer.specs.Row.{flat, times, ends}
-use Rattle.streamer.specs.Element.{namedAt, withName, baseAt, withFields, counterAt, ownAt, memberAt, elementAt}
-use Rattle.streamer.specs.Info.{collectionAt, sized, arrayBody, arrayAt, classBody, classAt, wholeAt, listAt, recordAt, infoAt, infoAnswer, infoTable}
+use Rattle.infofield.specs.Field.{andThen, fieldAt, numbersAt, endOf, countAt, counted, versionedAt, versioned, endedAt}
+use Rattle.infofield.specs.Field.{textFieldAt, unnamedAt, zeroAt, objectAt}
+use Rattle.infotag.specs.Tag.{firstIn, classIn, classOf, classNameAt, newTag, oldTag, tagAt, headAt, headed}
+use Rattle.streamer.specs.Row.{flat, times, ends, elementAt}
+use Rattle.infoelement.specs.Element.{namedAt, withName, detailsAt, baseAt, withFields, counterAt, ownAt, memberAt}
+use Rattle.streamer.specs.Info.{collectionAt, sized, arrayBody, arrayAt, classBody, classAt, wholeAt, listAt, recordAt, infoAt}
+use Rattle.streamer.specs.Info.{infoAnswer, infoTable}
 
 -- the date of the first example, with a month
 abbrev theDate : ℕ → Date
@@ -39,14 +39,30 @@ theDate m = record {
 -- a StreamerInfo record at 0 of two classes: A without elements, B with the base x (document 002's layout)
 abbrev twoClasses : List ℕ
 twoClasses =
-    0 ∷ 0 ∷ 1 ∷ 100 ∷ 0 ∷ 2 ∷ 0 ∷ 0 ∷ 1 ∷ 36 ∷ 0 ∷ 0 ∷ 0 ∷ 0 ∷ 0 ∷ 64 ∷ 0 ∷ 1 ∷ 0 ∷ 0 ∷ 0 ∷ 0 ∷ 0 ∷ 0 ∷ 0 ∷ 0 ∷ 5 ∷ 84 ∷ 76 ∷ 105 ∷ 115 ∷ 116 ∷ 12 ∷ 83 ∷ 116 ∷ 114 ∷ 101 ∷ 97 ∷ 109 ∷ 101 ∷ 114 ∷ 73 ∷ 110 ∷ 102 ∷ 111 ∷ 18 ∷ 68 ∷ 111 ∷ 117 ∷ 98 ∷ 108 ∷ 121 ∷ 32 ∷ 108 ∷ 105 ∷ 110 ∷ 107 ∷ 101 ∷ 100 ∷ 32 ∷ 108 ∷ 105 ∷ 115 ∷ 116 ∷ 64 ∷ 0 ∷ 1 ∷ 32 ∷ 0 ∷ 4 ∷ 0 ∷ 1 ∷ 0 ∷ 0 ∷ 0 ∷ 0 ∷ 3 ∷ 0 ∷ 0 ∷ 0 ∷ 0 ∷ 0 ∷ 0 ∷ 0 ∷ 2 ∷ 64 ∷ 0 ∷ 0 ∷ 94 ∷ 255 ∷ 255 ∷ 255 ∷ 255 ∷ 84 ∷ 83 ∷ 116 ∷ 114 ∷ 101 ∷ 97 ∷ 109 ∷ 101 ∷ 114 ∷ 73 ∷ 110 ∷ 102 ∷ 111 ∷ 0 ∷ 64 ∷ 0 ∷ 0 ∷ 72 ∷ 0 ∷ 2 ∷ 64 ∷ 0 ∷ 0 ∷ 15 ∷ 0 ∷ 1 ∷ 0 ∷ 1 ∷ 0 ∷ 0 ∷ 0 ∷ 0 ∷ 3 ∷ 0 ∷ 0 ∷ 0 ∷ 1 ∷ 65 ∷ 0 ∷ 0 ∷ 0 ∷ 0 ∷ 123 ∷ 0 ∷ 0 ∷ 0 ∷ 4 ∷ 64 ∷ 0 ∷ 0 ∷ 39 ∷ 255 ∷ 255 ∷ 255 ∷ 255 ∷ 84 ∷ 79 ∷ 98 ∷ 106 ∷ 65 ∷ 114 ∷ 114 ∷ 97 ∷ 121 ∷ 0 ∷ 64 ∷ 0 ∷ 0 ∷ 21 ∷ 0 ∷ 3 ∷ 0 ∷ 1 ∷ 0 ∷ 0 ∷ 0 ∷ 0 ∷ 3 ∷ 0 ∷ 0 ∷ 0 ∷ 0 ∷ 0 ∷ 0 ∷ 0 ∷ 0 ∷ 0 ∷ 0 ∷ 0 ∷ 0 ∷ 64 ∷ 0 ∷ 0 ∷ 169 ∷ 128 ∷ 0 ∷ 0 ∷ 91 ∷ 64 ∷ 0 ∷ 0 ∷ 161 ∷ 0 ∷ 2 ∷ 64 ∷ 0 ∷ 0 ∷ 15 ∷ 0 ∷ 1 ∷ 0 ∷ 1 ∷ 0 ∷ 0 ∷ 0 ∷ 0 ∷ 3 ∷ 0 ∷ 0 ∷ 0 ∷ 1 ∷ 66 ∷ 0 ∷ 0 ∷ 0 ∷ 0 ∷ 123 ∷ 0 ∷ 0 ∷ 0 ∷ 4 ∷ 64 ∷ 0 ∷ 0 ∷ 128 ∷ 128 ∷ 0 ∷ 0 ∷ 146 ∷ 64 ∷ 0 ∷ 0 ∷ 120 ∷ 0 ∷ 3 ∷ 0 ∷ 1 ∷ 0 ∷ 0 ∷ 0 ∷ 0 ∷ 3 ∷ 0 ∷ 0 ∷ 0 ∷ 0 ∷ 0 ∷ 0 ∷ 0 ∷ 1 ∷ 0 ∷ 0 ∷ 0 ∷ 0 ∷ 64 ∷ 0 ∷ 0 ∷ 95 ∷ 255 ∷ 255 ∷ 255 ∷ 255 ∷ 84 ∷ 83 ∷ 116 ∷ 114 ∷ 101 ∷ 97 ∷ 109 ∷ 101 ∷ 114 ∷ 66 ∷ 97 ∷ 115 ∷ 101 ∷ 0 ∷ 64 ∷ 0 ∷ 0 ∷ 73 ∷ 0 ∷ 2 ∷ 64 ∷ 0 ∷ 0 ∷ 63 ∷ 0 ∷ 2 ∷ 64 ∷ 0 ∷ 0 ∷ 16 ∷ 0 ∷ 1 ∷ 0 ∷ 1 ∷ 0 ∷ 0 ∷ 0 ∷ 0 ∷ 3 ∷ 0 ∷ 0 ∷ 0 ∷ 1 ∷ 120 ∷ 1 ∷ 116 ∷ 0 ∷ 0 ∷ 0 ∷ 0 ∷ 0 ∷ 0 ∷ 0 ∷ 1 ∷ 0 ∷ 0 ∷ 0 ∷ 0 ∷ 0 ∷ 0 ∷ 0 ∷ 0 ∷ 0 ∷ 0 ∷ 0 ∷ 0 ∷ 0 ∷ 0 ∷ 0 ∷ 0 ∷ 0 ∷ 0 ∷ 0 ∷ 0 ∷ 0 ∷ 0 ∷ 0 ∷ 0 ∷ 0 ∷ 0 ∷ 0 ∷ 0 ∷ 4 ∷ 66 ∷ 65 ∷ 83 ∷ 69 ∷ 0 ∷ 0 ∷ 0 ∷ 7 ∷ []
+    0 ∷ 0 ∷ 1 ∷ 100 ∷ 0 ∷ 2 ∷ 0 ∷ 0 ∷ 1 ∷ 36 ∷ 0 ∷ 0 ∷ 0 ∷ 0 ∷ 0 ∷ 64 ∷ 0 ∷ 1 ∷ 0 ∷ 0 ∷ 0 ∷ 0 ∷ 0 ∷ 0 ∷ 0 ∷ 0 ∷ 5 ∷ 84 ∷ 76 ∷ 105 ∷ 115
+    ∷ 116 ∷ 12 ∷ 83 ∷ 116 ∷ 114 ∷ 101 ∷ 97 ∷ 109 ∷ 101 ∷ 114 ∷ 73 ∷ 110 ∷ 102 ∷ 111 ∷ 18 ∷ 68 ∷ 111 ∷ 117 ∷ 98 ∷ 108 ∷ 121 ∷ 32 ∷ 108 ∷ 105
+    ∷ 110 ∷ 107 ∷ 101 ∷ 100 ∷ 32 ∷ 108 ∷ 105 ∷ 115 ∷ 116 ∷ 64 ∷ 0 ∷ 1 ∷ 32 ∷ 0 ∷ 4 ∷ 0 ∷ 1 ∷ 0 ∷ 0 ∷ 0 ∷ 0 ∷ 3 ∷ 0 ∷ 0 ∷ 0 ∷ 0 ∷ 0 ∷ 0 ∷ 0
+    ∷ 2 ∷ 64 ∷ 0 ∷ 0 ∷ 94 ∷ 255 ∷ 255 ∷ 255 ∷ 255 ∷ 84 ∷ 83 ∷ 116 ∷ 114 ∷ 101 ∷ 97 ∷ 109 ∷ 101 ∷ 114 ∷ 73 ∷ 110 ∷ 102 ∷ 111 ∷ 0 ∷ 64 ∷ 0
+    ∷ 0 ∷ 72 ∷ 0 ∷ 2 ∷ 64 ∷ 0 ∷ 0 ∷ 15 ∷ 0 ∷ 1 ∷ 0 ∷ 1 ∷ 0 ∷ 0 ∷ 0 ∷ 0 ∷ 3 ∷ 0 ∷ 0 ∷ 0 ∷ 1 ∷ 65 ∷ 0 ∷ 0 ∷ 0 ∷ 0 ∷ 123 ∷ 0 ∷ 0 ∷ 0 ∷ 4 ∷ 64
+    ∷ 0 ∷ 0 ∷ 39 ∷ 255 ∷ 255 ∷ 255 ∷ 255 ∷ 84 ∷ 79 ∷ 98 ∷ 106 ∷ 65 ∷ 114 ∷ 114 ∷ 97 ∷ 121 ∷ 0 ∷ 64 ∷ 0 ∷ 0 ∷ 21 ∷ 0 ∷ 3 ∷ 0 ∷ 1 ∷ 0 ∷ 0 ∷ 0
+    ∷ 0 ∷ 3 ∷ 0 ∷ 0 ∷ 0 ∷ 0 ∷ 0 ∷ 0 ∷ 0 ∷ 0 ∷ 0 ∷ 0 ∷ 0 ∷ 0 ∷ 64 ∷ 0 ∷ 0 ∷ 169 ∷ 128 ∷ 0 ∷ 0 ∷ 91 ∷ 64 ∷ 0 ∷ 0 ∷ 161 ∷ 0 ∷ 2 ∷ 64 ∷ 0 ∷ 0
+    ∷ 15 ∷ 0 ∷ 1 ∷ 0 ∷ 1 ∷ 0 ∷ 0 ∷ 0 ∷ 0 ∷ 3 ∷ 0 ∷ 0 ∷ 0 ∷ 1 ∷ 66 ∷ 0 ∷ 0 ∷ 0 ∷ 0 ∷ 123 ∷ 0 ∷ 0 ∷ 0 ∷ 4 ∷ 64 ∷ 0 ∷ 0 ∷ 128 ∷ 128 ∷ 0 ∷ 0
+    ∷ 146 ∷ 64 ∷ 0 ∷ 0 ∷ 120 ∷ 0 ∷ 3 ∷ 0 ∷ 1 ∷ 0 ∷ 0 ∷ 0 ∷ 0 ∷ 3 ∷ 0 ∷ 0 ∷ 0 ∷ 0 ∷ 0 ∷ 0 ∷ 0 ∷ 1 ∷ 0 ∷ 0 ∷ 0 ∷ 0 ∷ 64 ∷ 0 ∷ 0 ∷ 95 ∷ 255
+    ∷ 255 ∷ 255 ∷ 255 ∷ 84 ∷ 83 ∷ 116 ∷ 114 ∷ 101 ∷ 97 ∷ 109 ∷ 101 ∷ 114 ∷ 66 ∷ 97 ∷ 115 ∷ 101 ∷ 0 ∷ 64 ∷ 0 ∷ 0 ∷ 73 ∷ 0 ∷ 2 ∷ 64 ∷ 0 ∷ 0
+    ∷ 63 ∷ 0 ∷ 2 ∷ 64 ∷ 0 ∷ 0 ∷ 16 ∷ 0 ∷ 1 ∷ 0 ∷ 1 ∷ 0 ∷ 0 ∷ 0 ∷ 0 ∷ 3 ∷ 0 ∷ 0 ∷ 0 ∷ 1 ∷ 120 ∷ 1 ∷ 116 ∷ 0 ∷ 0 ∷ 0 ∷ 0 ∷ 0 ∷ 0 ∷ 0 ∷ 1 ∷ 0
+    ∷ 0 ∷ 0 ∷ 0 ∷ 0 ∷ 0 ∷ 0 ∷ 0 ∷ 0 ∷ 0 ∷ 0 ∷ 0 ∷ 0 ∷ 0 ∷ 0 ∷ 0 ∷ 0 ∷ 0 ∷ 0 ∷ 0 ∷ 0 ∷ 0 ∷ 0 ∷ 0 ∷ 0 ∷ 0 ∷ 0 ∷ 0 ∷ 4 ∷ 66 ∷ 65 ∷ 83 ∷ 69 ∷ 0
+    ∷ 0 ∷ 0 ∷ 7 ∷ []
 
 -- one.root's head key, and that of its object "x"
 abbrev headKey : List ℕ
-headKey = 0 ∷ 0 ∷ 0 ∷ 68 ∷ 0 ∷ 4 ∷ 0 ∷ 0 ∷ 0 ∷ 33 ∷ 0 ∷ 0 ∷ 0 ∷ 0 ∷ 0 ∷ 35 ∷ 0 ∷ 1 ∷ 0 ∷ 0 ∷ 0 ∷ 0 ∷ 0 ∷ 0 ∷ 0 ∷ 0 ∷ 5 ∷ 84 ∷ 70 ∷ 105 ∷ 108 ∷ 101 ∷ 1 ∷ 97 ∷ 0 ∷ []
+headKey =
+    0 ∷ 0 ∷ 0 ∷ 68 ∷ 0 ∷ 4 ∷ 0 ∷ 0 ∷ 0 ∷ 33 ∷ 0 ∷ 0 ∷ 0 ∷ 0 ∷ 0 ∷ 35 ∷ 0 ∷ 1 ∷ 0 ∷ 0 ∷ 0 ∷ 0 ∷ 0 ∷ 0 ∷ 0 ∷ 0 ∷ 5 ∷ 84 ∷ 70 ∷ 105 ∷ 108
+    ∷ 101 ∷ 1 ∷ 97 ∷ 0 ∷ []
 
 abbrev objectKey : List ℕ
-objectKey = 0 ∷ 0 ∷ 0 ∷ 50 ∷ 0 ∷ 4 ∷ 0 ∷ 0 ∷ 0 ∷ 10 ∷ 0 ∷ 0 ∷ 0 ∷ 0 ∷ 0 ∷ 40 ∷ 0 ∷ 1 ∷ 0 ∷ 0 ∷ 0 ∷ 0 ∷ 0 ∷ 0 ∷ 0 ∷ 100 ∷ 10 ∷ 84 ∷ 79 ∷ 98 ∷ 106 ∷ 83 ∷ 116 ∷ 114 ∷ 105 ∷ 110 ∷ 103 ∷ 1 ∷ 120 ∷ 0 ∷ []
+objectKey =
+    0 ∷ 0 ∷ 0 ∷ 50 ∷ 0 ∷ 4 ∷ 0 ∷ 0 ∷ 0 ∷ 10 ∷ 0 ∷ 0 ∷ 0 ∷ 0 ∷ 0 ∷ 40 ∷ 0 ∷ 1 ∷ 0 ∷ 0 ∷ 0 ∷ 0 ∷ 0 ∷ 0 ∷ 0 ∷ 100 ∷ 10 ∷ 84 ∷ 79 ∷ 98 ∷ 106
+    ∷ 83 ∷ 116 ∷ 114 ∷ 105 ∷ 110 ∷ 103 ∷ 1 ∷ 120 ∷ 0 ∷ []
 
 -- a record at 0 whose name has n bytes: its key, of class "A", is all of it
 abbrev named : ℕ → ℕ → ℕ → List ℕ
@@ -56,31 +72,28 @@ named high low n =
 
 -- a copy whose KeyLen, 41, is one above its sum
 abbrev longCopy : List ℕ
-longCopy = 0 ∷ 0 ∷ 0 ∷ 41 ∷ 0 ∷ 4 ∷ 0 ∷ 0 ∷ 0 ∷ 0 ∷ 0 ∷ 0 ∷ 0 ∷ 0 ∷ 0 ∷ 41 ∷ 0 ∷ 1 ∷ 0 ∷ 0 ∷ 0 ∷ 0 ∷ 0 ∷ 0 ∷ 0 ∷ 100 ∷ 10 ∷ 84 ∷ 79 ∷ 98 ∷ 106 ∷ 83 ∷ 116 ∷ 114 ∷ 105 ∷ 110 ∷ 103 ∷ 1 ∷ 120 ∷ 0 ∷ 0 ∷ []
+longCopy =
+    0 ∷ 0 ∷ 0 ∷ 41 ∷ 0 ∷ 4 ∷ 0 ∷ 0 ∷ 0 ∷ 0 ∷ 0 ∷ 0 ∷ 0 ∷ 0 ∷ 0 ∷ 41 ∷ 0 ∷ 1 ∷ 0 ∷ 0 ∷ 0 ∷ 0 ∷ 0 ∷ 0 ∷ 0 ∷ 100 ∷ 10 ∷ 84 ∷ 79 ∷ 98 ∷ 106
+    ∷ 83 ∷ 116 ∷ 114 ∷ 105 ∷ 110 ∷ 103 ∷ 1 ∷ 120 ∷ 0 ∷ 0 ∷ []
 
 -- the number of a refusal among the directories
 abbrev numberIn : Turn → ℕ
 numberIn (going ps os c) = 0
 numberIn (stop n p) = n
 
--- the sum of a header that was read
-abbrev sumIn : Header → ℕ
-sumIn (Good k) = sumOf k
-sumIn Bad = 0
-
 abbrev cases : List Check
 cases =
     -- 2024-03-15 12:30:45 packs to 1960757165; month 16 is 18
     eq (packAnswer (theDate 3) .number) 0 ∷ eq (packAnswer (theDate 3) .count) 1960757165 ∷ eq (packAnswer (theDate 16) .number) 18
     -- StreamerInfo's own key has sum 64
-    ∷ eq (sumIn (headerIn twoClasses 0 (length twoClasses))) 64
+    ∷ eq (sumOf (keyAt twoClasses 0)) 64
     -- its first new class tag is at 89, so a reference to it is 0x8000005b: the reference at 187 is taken, another is not
     ∷ eq (numAt 4 twoClasses 89) 4294967295 ∷ eq (numAt 4 twoClasses 187) 2147483739 ∷ eq (infoAnswer twoClasses 0 6 .number) 0
     ∷ eq (infoAnswer twoClasses 0 6 .count) 1 ∷ eq (infoAnswer (set twoClasses 190 92) 0 6 .number) 22
     ∷ eq (infoAnswer (set twoClasses 190 92) 0 6 .place) 187
     ∷ yes (eqBytes (infoTable twoClasses 0 7) (1 ∷ 1 ∷ 307 ∷ 347 ∷ 0 ∷ 0 ∷ 0 ∷ [])) ∷ eq (infoAnswer twoClasses 0 5 .number) 24
     -- one.root's head key has sum 35; "x" of TObjString 40
-    ∷ eq (sumIn (headerIn headKey 0 (length headKey))) 35 ∷ eq (sumIn (headerIn objectKey 0 (length objectKey))) 40
+    ∷ eq (sumOf (keyAt headKey 0)) 35 ∷ eq (sumOf (keyAt objectKey 0)) 40
     -- name length 254 is taken, 255 is 6
     ∷ eq (pieceAnswer (named 1 28 254) 0 .number) 0 ∷ eq (pieceAnswer (named 1 29 255) 0 .number) 6
     -- three bytes left before END is 5; four holding -4 is a gap
@@ -95,5 +108,9 @@ cases =
     ∷ []
 
 pub examples : all cases ≡ true
-unfolding beValue numAt signedOf textSize textOf textAt textIn contentOf keyAt namesIn headerIn sizeAt recordThere pieceAt pieceAnswer packed packAnswer openedAs copyIn verdict copyTurn starts andThen fieldAt numbersAt endOf countAt counted endedAt textFieldAt unnamedAt zeroAt objectAt eqBytes firstIn classIn classOf newTag oldTag tagAt headAt headed flat times ends namedAt withName baseAt withFields counterAt ownAt memberAt elementAt collectionAt sized arrayBody arrayAt classBody classAt wholeAt listAt recordAt infoAt infoAnswer infoTable
+unfolding beValue numAt signedOf textAt textIn contentOf keyAt namesAt headerIn sizeAt recordThere pieceAt pieceAnswer packed packAnswer
+    openedAs copyIn verdict copyTurn starts andThen fieldAt numbersAt endOf countAt counted versionedAt versioned endedAt textFieldAt
+    unnamedAt zeroAt objectAt eqBytes firstIn classIn classOf classNameAt newTag oldTag tagAt headAt headed flat times ends namedAt withName
+    detailsAt baseAt withFields counterAt ownAt memberAt elementAt collectionAt sized arrayBody arrayAt classBody classAt wholeAt listAt
+    recordAt infoAt infoAnswer infoTable
 examples = refl

@@ -1,45 +1,45 @@
--- The StreamerInfo record: its key, its list and the answers of the steps.
-use Prim.Native.Nat.{ℕ, _+_, _-_, _≤_}
+-- The StreamerInfo record: its list and the answers of the steps.
+use Prim.Native.Nat.{ℕ, _+_, _≤_}
 use mathlib.Core.List.{List, [], _∷_}
 use mathlib.Core.Bool.{Bool, true, false, not}
 use mathlib.Core.Path.{_≡_, refl, sym, _∙_}
 use mathlib.Core.Logic.{inl, inr}
 use native.Mathlib.Omega.{arith}
 use borrow.Author.Tests.{eq-eqb, ne-eqb, eqb-true}
-use lib.ListN.{length, take, drop}
+use denote.Enum.Declared.{tagOf}
+use types.Run.{OneOf}
+use lib.ListN.{length}
 use lib.Dec.{eqb}
-use Rattle.wire.specs.Check.{all, All, pick}
-use Rattle.wire.specs.Text.{contentOf}
-use Rattle.key.specs.Header.{sumOf, plain, unpackedData}
+use Rattle.wire.specs.Check.{pick}
+use Rattle.wire.proofs.Checks.{yes-all, not-all}
+use Rattle.key.specs.Header.{keyAt, unpackedData}
 use Rattle.key.specs.Piece.{pieceAt}
 use Rattle.key.specs.declared.header.Key.{Key}
 use Rattle.key.specs.declared.piece.Piece.{Piece}
 use Rattle.key.specs.declared.piece.Piece.the-variants.{Record, Gap, Refused}
-use Rattle.wire.proofs.Checks.{yes-all, not-all, all-yes}
-use Rattle.key.proofs.Pieces.{from-record}
-use Rattle.streamer.proofs.Runs.{ended-stop}
-use Rattle.streamer.specs.Row.{stop, Ended}
-use denote.Enum.Declared.{tagOf}
-use types.Run.{OneOf}
+use Rattle.key.proofs.Pieces.{Recorded, from-record}
 use Rattle.key.proofs.piece.Piece.{the-type}
-use Rattle.wire.specs.Equal.{eqBytes}
-use Rattle.wire.specs.Name.{tList, streamerInfo}
-use Rattle.streamer.specs.Info.{sized as sizedBy, filling, wholeAt, isInfo, listAt, recordAt, onPiece, infoAt, noRecord}
-use Rattle.streamer.specs.Field.{countAt}
-use Rattle.streamer.specs.declared.field.Count.{Count}
-use Rattle.streamer.specs.declared.field.Count.the-variants.{Open, Bad}
+use Rattle.infofield.specs.Field.{countAt}
+use Rattle.infofield.specs.declared.field.Count.{Count}
+use Rattle.infofield.specs.declared.field.Count.the-variants.{Open, Bad}
+use Rattle.streamer.specs.Row.{stop}
+use Rattle.streamer.specs.Runs.{Ended, noRecord}
+use Rattle.streamer.specs.InfoKey.{isInfo}
+use Rattle.streamer.specs.Info.{sized, filling, wholeAt, listAt, recordAt, onPiece, infoAt}
 use Rattle.streamer.specs.declared.info.Size.{Size}
 use Rattle.streamer.specs.declared.info.Collection.{Collection}
 use Rattle.streamer.specs.declared.info.Collection.the-variants.{Held, Wrong}
+use Rattle.streamer.proofs.Runs.{ended-stop}
 
 -- what a list or an array starts with
-pub go-sized : {A : Type 0} (w : ℕ → ℕ → A) (f : Size → A) {x y : Collection} {n : Size} {r : A} → y ≡ x → y ≡ Held n → r ≡ f n → r ≡ sizedBy w x f
-unfolding sizedBy
-go-sized w f e g h = rw (sym e ∙ g) h
+module _ {A : Type 0} (w : ℕ → ℕ → A) (f : Size → A) where
+  pub go-sized : {x y : Collection} {n : Size} {r : A} → y ≡ x → y ≡ Held n → r ≡ f n → r ≡ sized w x f
+  unfolding sized
+  go-sized e g h = rw (sym e ∙ g) h
 
-pub halt-sized : {A : Type 0} (w : ℕ → ℕ → A) (f : Size → A) {x y : Collection} {c p : ℕ} → y ≡ x → y ≡ Wrong c p → w c p ≡ sizedBy w x f
-unfolding sizedBy
-halt-sized w f e g = rw (sym e ∙ g)
+  pub halt-sized : {x y : Collection} {c p : ℕ} → y ≡ x → y ≡ Wrong c p → w c p ≡ sized w x f
+  unfolding sized
+  halt-sized e g = rw (sym e ∙ g)
 
 -- the ByteCount of the list
 module _ (s : List ℕ) (p e : ℕ) {y : Count} (is : y ≡ countAt s p e) where
@@ -54,42 +54,6 @@ module _ (s : List ℕ) (p e : ℕ) {y : Count} (is : y ≡ countAt s p e) where
   pub whole-is : {q f : ℕ} → y ≡ Open q f → f ≡ e → Open q f ≡ wholeAt s p e
   unfolding wholeAt
   whole-is {q} {f} g h = rw (sym is ∙ g, eq-eqb f e h)
-
--- where the strings of a key stand
-pub record Places (s : List ℕ) (p : ℕ) (k : Key) : Type 0 where
-  pub sum : k .title .next ≡ p + sumOf k
-  pub class : k .class .next ≡ k .class .start + k .class .len
-  pub name : k .name .next ≡ k .name .start + k .name .len
-  pub before : k .class .next ≤ k .name .start
-  pub after : k .name .next ≤ k .title .next
-
-pub key-places : (s : List ℕ) (p : ℕ) {k : Key} → pieceAt s p ≡ Record k → Places s p k
-key-places s p e =
-    let h = from-record s p e .header in
-    let a = h .strings .class in
-    let b = h .strings .name in
-    let c = h .strings .title in
-    record { sum = h .sum; class = a .content; name = b .content; before = omega (arith, b .start); after = omega (arith, c .next) }
-
--- the key of the StreamerInfo record, or another
-module _ (s : List ℕ) (k : Key) where
-  pub not-plain : (k .keylen ≡ sumOf k → ⊥) → false ≡ isInfo s k
-  not-plain h = rw (ne-eqb (k .keylen) (sumOf k) h)
-
-  is-plain : k .keylen ≡ sumOf k → all (plain k) ≡ true
-  is-plain h = yes-all (plain k) (h, tt)
-
-  module _ (h : k .keylen ≡ sumOf k) (m : ℕ) (i : m ≡ k .class .len) {y : Bool} (is : y ≡ eqBytes (take m (drop (k .class .start) s)) tList) where
-    class-is : eqBytes (contentOf s (k .class)) tList ≡ y
-    unfolding contentOf
-    class-is = rw (← i) (sym is)
-
-    pub other-class : y ≡ false → false ≡ isInfo s k
-    other-class g = rw (is-plain h, class-is, g)
-
-    pub by-name : y ≡ true → (l : ℕ) → l ≡ k .name .len → {x : Bool} → x ≡ eqBytes (take l (drop (k .name .start) s)) streamerInfo → x ≡ isInfo s k
-    unfolding contentOf
-    by-name g l j d = rw (is-plain h, class-is, g, ← j) d
 
 -- the end of the list is the data's
 pub from-whole : (s : List ℕ) (p e : ℕ) {y : Count} {q f : ℕ} → y ≡ wholeAt s p e → y ≡ Open q f → f ≡ e
@@ -106,18 +70,23 @@ from-whole s p e {y} {q} {f} d g = go (countAt s p e) (sym g ∙ d)
 
 -- what is known of a record that was read
 pub record Found (s : List ℕ) (p : ℕ) (k : Key) : Type 0 where
-  pub is : pieceAt s p ≡ Record k
+  pub is : k ≡ keyAt s p
   pub small : k .nbytes ≤ 2147483647
   pub key : k .keylen ≤ k .nbytes
   pub fits : p + k .nbytes ≤ length s
   pub strings : k .title .next ≤ length s
 
 pub found : (s : List ℕ) (p : ℕ) {y : Piece} {k : Key} → y ≡ pieceAt s p → y ≡ Record k → Found s p k
-found s p d g =
-    let h = from-record s p (sym d ∙ g) in
-    let f = h .header .fits in
-    let t = h .header .strings .title in
-    record { is = sym d ∙ g; small = omega arith; key = omega arith; fits = omega (arith, h .size, h .sized-there); strings = omega (arith, t .fits, t .room) }
+found s p d g = go (from-record s p (sym d ∙ g))
+  where
+    go : {k : Key} → Recorded s p k → Found s p k
+    go r = record {
+      is = r .is;
+      small = rw (r .is) (omega (arith, r .fits));
+      key = rw (r .is) (omega (arith, r .fits));
+      fits = omega (arith, r .sized-there, r .size);
+      strings = rw (r .is) (omega (arith, r .sized-there, r .fits));
+    }
 
 -- a test that was turned round
 pub turned : (b : Bool) → not b ≡ true → b ≡ false
@@ -138,7 +107,8 @@ module _ (s : List ℕ) (p : ℕ) {y : Piece} (is : y ≡ pieceAt s p) where
   unfolding recordAt
   other-key {k} g d i = sym (rw (sym d ∙ i)) ∙ here g
 
-  pub packed : {k : Key} → y ≡ Record k → {b : Bool} → b ≡ isInfo s k → b ≡ true → (k .objlen + k .keylen ≡ k .nbytes → ⊥) → stop 19 p ≡ infoAt s p
+  pub packed : {k : Key} → y ≡ Record k → {b : Bool} → b ≡ isInfo s k → b ≡ true → (k .objlen + k .keylen ≡ k .nbytes → ⊥)
+      → stop 19 p ≡ infoAt s p
   unfolding recordAt
   packed {k} g d i h = sym (rw (sym d ∙ i, not-all (unpackedData k) (λ f. h (f .0)))) ∙ here g
 

@@ -7,15 +7,20 @@ use native.Mathlib.Numerals.{add-one}
 use native.Mathlib.Omega.{arith}
 use borrow.Author.Tests.{le-leb, lt-leb}
 use mathlib.Core.Bool.{Bool, true, false}
-use lib.ListN.{length, length-append, replicate}
+use lib.ListN.{length, length-append}
 use lib.Dec.{eqb}
 use Rattle.wire.specs.Answer.{done, refusal}
 use Rattle.wire.specs.Check.{pick}
-use Rattle.streamer.specs.Info.{tooMany, answered, filled}
-use Rattle.streamer.specs.Field.{andThen, endedAt}
-use Rattle.streamer.specs.Row.{putRow, putRows, Run, going, stop, onto, goOn, times, ends, Ran, Grown, Ended, closedRows}
-use Rattle.streamer.specs.declared.field.Step.the-variants as step
+use Rattle.wire.specs.declared.Answer.{Answer}
+use Rattle.table.specs.Table.{filled}
+use Rattle.infofield.specs.Field.{andThen, endedAt}
+use Rattle.infofield.specs.declared.field.Step.the-variants as step
+use Rattle.streamer.specs.Info.{tooMany, answered, shown}
+use Rattle.infoelement.specs.declared.element.Fields.{Fields}
+use Rattle.streamer.specs.Row.{flat, rowOf, Run, going, stop, onto, goOn, times, ends}
+use Rattle.streamer.specs.Runs.{putRow, putRows, Ran, Grown, Ended, closedRows}
 use Rattle.streamer.specs.declared.row.Row.{Row}
+use Rattle.streamer.specs.declared.row.Owner.{Owner}
 use Rattle.streamer.specs.declared.row.Rows.{Rows}
 use Rattle.streamer.specs.declared.row.Rows.the-variants.{Next, Wrong}
 use Rattle.streamer.proofs.Tables.{more-rows, all-rows}
@@ -46,26 +51,18 @@ pub grown-by : (n k : ℕ) {a : Rows} {q m : ℕ} → Grown n k a → a ≡ Next
 unfolding Grown
 grown-by n k h e = rw e at h
 
-pub wrong-grown : (n k j l : ℕ) {a : Rows} {c p : ℕ} → a ≡ Wrong c p → Grown n k a
+pub wrong-grown : (n k : ℕ) {a : Rows} {c p : ℕ} → a ≡ Wrong c p → Grown n k a
 unfolding Grown
-wrong-grown n k j l e = rw e tt
+wrong-grown n k e = rw e tt
 
 -- one row
-pub record Same (r r′ : Row) : Type 0 where
-  pub class : r .class ≡ r′ .class
-  pub kind : r .kind ≡ r′ .kind
-  pub name : r .name ≡ r′ .name
-  pub typename : r .typename ≡ r′ .typename
-  pub ftype : r .ftype ≡ r′ .ftype
-  pub length : r .length ≡ r′ .length
-
-same : {r r′ : Row} → Same r r′ → r ≡ r′
-same h = λ i. record { class = h .class i; kind = h .kind i; name = h .name i; typename = h .typename i; ftype = h .ftype i; length = h .length i }
-
 pub one-row : {run : Run} {ts : List ℕ} {r r′ : Row} {p : ℕ} (t : List ℕ) (n : ℕ) {u : List ℕ} → going ts (r′ ∷ []) p ≡ run
-    → Same r r′ → u ≡ putRow t n r → Ran run t n (Next p (n + 1)) ts u
+    → r ≡ r′ → u ≡ putRow t n r → Ran run t n (Next p (n + 1)) ts u
 unfolding putRows
-one-row t n {u} e h k = ran-going t n (n + 1) u e refl (k ∙ ap (putRow t n) (same h))
+one-row t n {u} e h k = ran-going t n (n + 1) u e refl (k ∙ ap (putRow t n) h)
+
+pub row-kind : (o : Owner) (m : Fields) {r : Row} {j k : ℕ} → r ≡ rowOf o j m → j ≡ k → r ≡ rowOf o k m
+row-kind o m e g = rw g at e
 
 -- an object's end
 pub closed-next : (a : Rows) (e : ℕ) {q m : ℕ} {b : Rows} → a ≡ Next q m → b ≡ andThen Wrong (endedAt q e) (λ r. Next r m) → b ≡ closedRows a e
@@ -100,14 +97,14 @@ pub grown-ends : (n k e : ℕ) (a b : Rows) → Grown n k a → b ≡ closedRows
 grown-ends n k e a b h g = rw g (closed-grown n k e a h)
 
 -- objects one after the other: after k of them from p with the tags ts, the place q, the tags us, m rows and the table u
-pub record Reading (f : ℕ → List ℕ → ℕ → Run) (ts : List ℕ) (p : ℕ) (t : List ℕ) (n k : ℕ) (us : List ℕ) (q : ℕ) (u : List ℕ) (m : ℕ) : Type 0 where
+pub record Reading (f : ℕ → List ℕ → ℕ → Run) (ts : List ℕ) (p : ℕ) (t : List ℕ) (n k : ℕ) (us : List ℕ) (q : ℕ) (u : List ℕ) (m : ℕ)
+    : Type 0 where
   pub run : Ran (times f ts p k) t n (Next q m) us u
-  pub tags : length us ≡ length ts
   pub table : length u ≡ length t
 
 pub read-began : (f : ℕ → List ℕ → ℕ → Run) (ts : List ℕ) (p : ℕ) (t : List ℕ) (n : ℕ) → Reading f ts p t n 0 ts p t n
 unfolding times Ran putRows
-read-began f ts p t n = record { run = (refl, sym (add-zero n), refl, refl); tags = refl; table = refl }
+read-began f ts p t n = record { run = (refl, sym (add-zero n), refl, refl); table = refl }
 
 goes : (f : List ℕ → ℕ → Run) (x : Run) (t : List ℕ) (n : ℕ) (q m : ℕ) (us u : List ℕ) (a : Rows) (us′ u′ : List ℕ) → Ran x t n (Next q m) us u
     → Ran (f us q) u m a us′ u′ → Ran (goOn f x) t n a us′ u′
@@ -134,16 +131,16 @@ unfolding Ran
 stop-is (going ts rs p) t n c r us u h = absurd h
 stop-is (stop d q) t n c r us u h = λ i. stop (h .0 i) (h .1 i)
 
-module _ {f : ℕ → List ℕ → ℕ → Run} {ts : List ℕ} {p : ℕ} {t : List ℕ} {n k : ℕ} {us : List ℕ} {q : ℕ} {u : List ℕ} {m : ℕ} (h : Reading f ts p t n k us q u m) where
+module _ {f : ℕ → List ℕ → ℕ → Run} {ts : List ℕ} {p : ℕ} {t : List ℕ} {n k : ℕ} {us : List ℕ} {q : ℕ} {u : List ℕ} {m : ℕ}
+    (h : Reading f ts p t n k us q u m) where
   one-more : (a : Rows) (us′ u′ : List ℕ) → Ran (f k us q) u m a us′ u′ → Ran (times f ts p (suc k)) t n a us′ u′
   unfolding times
   one-more a us′ u′ g = goes (f k) (times f ts p k) t n q m us u a us′ u′ (h .run) g
 
-  pub read-more : (a : Rows) {q′ m′ : ℕ} {us′ u′ : List ℕ} → Ran (f k us q) u m a us′ u′ → a ≡ Next q′ m′ → length us′ ≡ length us → length u′ ≡ length u
+  pub read-more : (a : Rows) {q′ m′ : ℕ} {us′ u′ : List ℕ} → Ran (f k us q) u m a us′ u′ → a ≡ Next q′ m′ → length u′ ≡ length u
       → Reading f ts p t n (k + 1) us′ q′ u′ m′
-  read-more a {q′} {m′} {us′} {u′} g e i j = record {
+  read-more a {q′} {m′} {us′} {u′} g e j = record {
     run = rw add-one (one-more (Next q′ m′) us′ u′ (rw e at g));
-    tags = i ∙ h .tags;
     table = j ∙ h .table;
   }
 
@@ -170,8 +167,10 @@ as-ended t a u e h = rw e at h
 
 -- the answer and the table of a run: rows, too many rows, a fault
 module _ (n : ℕ) where
-  rows-of : (run : Run) (u : List ℕ) (q m : ℕ) (us : List ℕ) → Ran run (replicate n 0) 0 (Next q m) us u → m ≤ n / 6
-      → (done m ≡ answered run n) × (u ≡ filled run n)
+  abbrev Answers : Run → Answer → List ℕ → Type 0
+  Answers run a u = (a ≡ answered run n) × (u ≡ filled (flat (shown run n)) n)
+
+  rows-of : (run : Run) (u : List ℕ) (q m : ℕ) (us : List ℕ) → Ran run (filled [] n) 0 (Next q m) us u → m ≤ n / 6 → Answers run (done m) u
   unfolding Ran
   rows-of (going ts rs p) u q m us h l =
       let e : m ≡ length rs = h .1 ∙ zero-add (length rs) in
@@ -179,41 +178,32 @@ module _ (n : ℕ) where
       (rw f (ap done e), rw f (h .3 ∙ all-rows n rs (omega arith)))
   rows-of (stop c p) u q m us h l = absurd h
 
-  many-of : (run : Run) (u : List ℕ) (q m : ℕ) (us : List ℕ) → Ran run (replicate n 0) 0 (Next q m) us u → n / 6 < m
-      → (tooMany m ≡ answered run n) × (replicate n 0 ≡ filled run n)
-  unfolding Ran
-  many-of (going ts rs p) u q m us h l =
+  many-of : (run : Run) (t u : List ℕ) (q m : ℕ) (us : List ℕ) → Ran run t 0 (Next q m) us u → n / 6 < m → Answers run (tooMany m) (filled [] n)
+  unfolding Ran flat
+  many-of (going ts rs p) t u q m us h l =
       let e : m ≡ length rs = h .1 ∙ zero-add (length rs) in
       let f = lt-leb (length rs) (n / 6) (omega arith) in
       (rw f (ap tooMany e), rw f)
-  many-of (stop c p) u q m us h l = absurd h
+  many-of (stop c p) t u q m us h l = absurd h
 
-  stop-of : (run : Run) (t u : List ℕ) (c p : ℕ) (us : List ℕ) → Ran run t 0 (Wrong c p) us u
-      → (refusal c p ≡ answered run n) × (replicate n 0 ≡ filled run n)
-  unfolding Ran
+  stop-of : (run : Run) (t u : List ℕ) (c p : ℕ) (us : List ℕ) → Ran run t 0 (Wrong c p) us u → Answers run (refusal c p) (filled [] n)
+  unfolding Ran flat
   stop-of (going ts rs r) t u c p us h = absurd h
   stop-of (stop d r) t u c p us h = (λ i. refusal (h .0 i) (h .1 i), refl)
 
-  pub answer-rows : (run : Run) {t : List ℕ} (u : List ℕ) {a : Rows} {q m : ℕ} → t ≡ replicate n 0 → Ended run t a u → a ≡ Next q m → m ≤ n / 6
-      → (done m ≡ answered run n) × (u ≡ filled run n)
-  unfolding Ended
-  answer-rows run {t} u {a} {q} {m} e h g l =
-      let k : Ran run (replicate n 0) 0 (Next q m) (h .0) u = rw (e, g) at (h .1) in rows-of run u q m (h .0) k l
+  module _ (run : Run) (t u : List ℕ) {a : Rows} (h : Ended run t a u) where
+    pub answer-rows : {q m : ℕ} → t ≡ filled [] n → a ≡ Next q m → m ≤ n / 6 → Answers run (done m) u
+    unfolding Ended
+    answer-rows {q} {m} e g l =
+        let k : Ran run (filled [] n) 0 (Next q m) (h .0) u = rw (e, g) at (h .1) in rows-of run u q m (h .0) k l
 
-  pub answer-many : (run : Run) {t : List ℕ} (u v : List ℕ) {a : Rows} {q m : ℕ} → t ≡ replicate n 0 → Ended run t a u → a ≡ Next q m → n / 6 < m
-      → (k : ℕ) → v ≡ replicate k 0 → k ≡ n → (tooMany m ≡ answered run n) × (v ≡ filled run n)
-  unfolding Ended
-  answer-many run {t} u v {a} {q} {m} e h g l k i j =
-      let x : Ran run (replicate n 0) 0 (Next q m) (h .0) u = rw (e, g) at (h .1) in
-      let y = many-of run u q m (h .0) x l in
-      let z : v ≡ replicate n 0 = i ∙ ap (λ (b : ℕ). replicate b 0) j in
-      (y .0, z ∙ y .1)
+    -- the table was cleared again
+    module _ {v : List ℕ} {k : ℕ} (i : v ≡ filled [] k) (j : k ≡ n) where
+      pub answer-many : {q m : ℕ} → a ≡ Next q m → n / 6 < m → Answers run (tooMany m) v
+      unfolding Ended
+      answer-many {q} {m} g l =
+          let y = many-of run t u q m (h .0) (rw g at (h .1)) l in (y .0, i ∙ ap (filled []) j ∙ y .1)
 
-  pub answer-stop : (run : Run) (t u v : List ℕ) {a : Rows} {c p : ℕ} → Ended run t a u → a ≡ Wrong c p
-      → (k : ℕ) → v ≡ replicate k 0 → k ≡ n → (refusal c p ≡ answered run n) × (v ≡ filled run n)
-  unfolding Ended
-  answer-stop run t u v {a} {c} {p} h g k i j =
-      let x : Ran run t 0 (Wrong c p) (h .0) u = rw g at (h .1) in
-      let y = stop-of run t u c p (h .0) x in
-      let z : v ≡ replicate n 0 = i ∙ ap (λ (b : ℕ). replicate b 0) j in
-      (y .0, z ∙ y .1)
+      pub answer-stop : {c p : ℕ} → a ≡ Wrong c p → Answers run (refusal c p) v
+      unfolding Ended
+      answer-stop {c} {p} g = let y = stop-of run t u c p (h .0) (rw g at (h .1)) in (y .0, i ∙ ap (filled []) j ∙ y .1)

@@ -1,51 +1,20 @@
--- The table: clearing it, and rows written one after the other.
+-- Rows written one after the other.
 use Prim.Native.Nat.{ℕ, zero, suc, _+_, _-_, _*_, _/_, _<_, _≤_}
-use mathlib.Core.List.{List, [], _∷_, _++_, append-nil}
-use mathlib.Core.Bool.{Bool, true, false}
-use mathlib.Core.Path.{_≡_, refl, sym, ap, _∙_}
+use mathlib.Core.List.{List, [], _∷_, _++_}
+use mathlib.Core.Path.{_≡_, refl, sym, _∙_}
 use native.Mathlib.Nat.{add-zero, zero-add}
 use native.Mathlib.Omega.{arith}
-use borrow.Author.Tests.{le-leb, lt-leb, leb-true}
+use borrow.Author.Tests.{le-leb, lt-leb}
 use borrow.Rule.Slice.PartMut.{midOf, putMid}
 use lib.Dec.{leb}
-use lib.ListN.{length, drop, set, replicate, length-replicate, replicate-append-replicate, drop-of-length-le}
+use lib.ListN.{length, drop, replicate, length-replicate}
 use Rattle.wire.specs.Check.{pick}
 use Rattle.wire.specs.Patch.{patch}
-use Rattle.wire.proofs.Patches.{length-patch, patch-nil, patch-set, patch-patch, patch-part}
-use Rattle.streamer.specs.Row.{six, flat, putRow, putRows}
+use Rattle.wire.proofs.Patches.{length-patch, patch-nil, patch-patch, patch-part}
+use Rattle.table.specs.Table.{filled}
+use Rattle.streamer.specs.Row.{six, flat}
+use Rattle.streamer.specs.Runs.{putRow, putRows}
 use Rattle.streamer.specs.declared.row.Row.{Row}
-
--- while a table is cleared: w is t with its first i numbers 0
-pub record Clearing (t w : List ℕ) (i : ℕ) : Type 0 where
-  pub done : i ≤ length t
-  pub is : w ≡ patch t 0 (replicate i 0)
-
-pub clear-began : (t : List ℕ) → Clearing t t 0
-clear-began t = record { done = omega arith; is = sym (patch-nil t 0) }
-
-one-more : (i : ℕ) → replicate {A = ℕ} i 0 ++ (0 ∷ []) ≡ replicate (i + 1) 0
-one-more i = replicate-append-replicate i 1 0
-
-module _ {t w : List ℕ} {i : ℕ} (h : Clearing t w i) where
-  size : length (replicate {A = ℕ} i 0) ≡ i
-  size = length-replicate i 0
-
-  pub clear-length : length w ≡ length t
-  clear-length = ap length (h .is) ∙ length-patch t 0 (replicate i 0) (omega (arith, size, h .done))
-
-  pub clear-turn : i < length t → Clearing t (set w i 0) (i + 1)
-  clear-turn l = record {
-    done = omega arith;
-    is = rw (h .is) (patch-set t 0 (replicate i 0) i 0 (omega (arith, size)) l ∙ ap (patch t 0) (one-more i));
-  }
-
-  pub clear-ended : length t ≤ i → w ≡ replicate (length t) 0
-  unfolding patch
-  clear-ended l =
-      let e : i ≡ length t = omega (arith, h .done) in
-      let m : length t ≤ length t = omega arith in
-      let d : drop (length t) t ≡ [] = drop-of-length-le t m in
-      h .is ∙ rw (e, zero-add, length-replicate, d) (append-nil (replicate (length t) 0))
 
 -- one row
 pub no-room : (t : List ℕ) (n : ℕ) (r : Row) → length t / 6 ≤ n → t ≡ putRow t n r
@@ -58,14 +27,6 @@ unfolding putRow
 row-put t ys n r h e = rw (le-leb (n * 6 + 6) (length t) (omega arith)) (patch-part t ys (six r) (n * 6) (omega arith) e)
 
 -- rows
-pub length-row : (t : List ℕ) (n : ℕ) (r : Row) → length (putRow t n r) ≡ length t
-unfolding putRow
-length-row t n r = go (leb (n * 6 + 6) (length t)) refl
-  where
-    go : (b : Bool) → leb (n * 6 + 6) (length t) ≡ b → length (pick b (patch t (n * 6) (six r)) t) ≡ length t
-    go true e = length-patch t (n * 6) (six r) (leb-true _ _ e)
-    go false e = refl
-
 pub more-rows : (t : List ℕ) (n : ℕ) (rs ss : List Row) → putRows (putRows t n rs) (n + length rs) ss ≡ putRows t n (rs ++ ss)
 unfolding putRows
 more-rows t n [] ss = rw add-zero
@@ -83,10 +44,13 @@ rows-front : (t : List ℕ) (n : ℕ) (rs : List Row) → (n + length rs) * 6 �
 unfolding putRows flat putRow
 rows-front t n [] h = sym (patch-nil t (n * 6))
 rows-front t n (r ∷ rs) h =
-    let e : pick (leb (n * 6 + 6) (length t)) (patch t (n * 6) (six r)) t ≡ patch t (n * 6) (six r) = rw (le-leb (n * 6 + 6) (length t) (omega arith)) in
+    let e : pick (leb (n * 6 + 6) (length t)) (patch t (n * 6) (six r)) t ≡ patch t (n * 6) (six r) =
+    rw (le-leb (n * 6 + 6) (length t) (omega arith)) in
     let l = length-patch t (n * 6) (six r) (omega arith) in
     let m : suc n * 6 ≡ n * 6 + 6 = omega arith in
-    rw e (rows-front (patch t (n * 6) (six r)) (suc n) rs (omega arith) ∙ rw m (patch-patch t (n * 6) (six r) (flat rs) (omega arith)))
+    rw e
+    (rows-front (patch t (n * 6) (six r)) (suc n) rs (omega arith)
+    ∙ rw m (patch-patch t (n * 6) (six r) (flat rs) (omega arith)))
 
 -- and the rest of a cleared table is 0
 drop-zeros : (n k : ℕ) → drop k (replicate {A = ℕ} n 0) ≡ replicate (n - k) 0
@@ -94,9 +58,9 @@ drop-zeros n zero = let e : n - 0 ≡ n = omega arith in rw e
 drop-zeros zero (suc k) = let e : 0 - suc k ≡ 0 = omega arith in rw e
 drop-zeros (suc n) (suc k) = let e : suc n - suc k ≡ n - k = omega arith in rw e (drop-zeros n k)
 
-pub all-rows : (n : ℕ) (rs : List Row) → length rs ≤ n / 6
-    → putRows (replicate n 0) 0 rs ≡ flat rs ++ replicate (n - length (flat rs)) 0
+pub all-rows : (n : ℕ) (rs : List Row) → length rs ≤ n / 6 → putRows (filled [] n) 0 rs ≡ filled (flat rs) n
 unfolding patch
 all-rows n rs h =
+    let z : n - 0 ≡ n = omega arith in
     let e = length-replicate {A = ℕ} n 0 in
-    rows-front (replicate n 0) 0 rs (omega arith) ∙ rw (zero-add, drop-zeros)
+    rw z (rows-front (replicate n 0) 0 rs (omega arith) ∙ rw (zero-add, drop-zeros))

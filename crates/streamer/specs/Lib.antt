@@ -1,5 +1,4 @@
-pub mod Field
-pub mod Tag
 pub mod Row
-pub mod Element
+pub mod Runs
+pub mod InfoKey
 pub mod Info

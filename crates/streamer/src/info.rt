@@ -1,32 +1,34 @@
 // The list of TStreamerInfo, and its record (document 002).
 ghost use mathlib.Core.Path.{_≡_};
-ghost use Prim.Native.Nat.{_+_, _≤_, _<_};
-ghost use lib.ListN.{length};
-ghost use Rattle.streamer.specs.Element.{elementAt};
-ghost use Rattle.streamer.specs.Info.{collectionAt, arrayBody, arrayAt, classBody, classAt, wholeAt, listAt, isInfo, infoAt, noRecord};
-ghost use Rattle.key.specs.Piece.{pieceAt};
-ghost use Rattle.key.specs.declared.piece.Piece.the-variants.{Record};
-ghost use Rattle.streamer.specs.Row.{Ran, Grown, Ended, closedRows, times};
-use crate::element::Named;
-use crate::element::element;
-use crate::element::read_named;
-use crate::field::Count;
-use crate::field::Step;
-use crate::field::ended;
-use crate::field::field;
-use crate::field::numbers;
-use crate::field::object;
-use crate::field::open;
-use crate::field::unnamed;
-use crate::field::zero;
+ghost use Prim.Native.Nat.{_+_, _≤_};
+ghost use Rattle.wire.specs.Lent.{before, after};
+ghost use Rattle.streamer.specs.Row.{times, elementAt};
+ghost use Rattle.streamer.specs.Info.{collectionAt, arrayBody, arrayAt, classBody, classAt, ownerOf};
+ghost use Rattle.streamer.specs.Info.{wholeAt, listAt, infoAt};
+ghost use Rattle.streamer.specs.Runs.{Within, Runs, Ran, Ended, closedRows, noRecord};
+use crate::info_key::is_info;
+use crate::row::Owner;
 use crate::row::Rows;
-use crate::tag::Head;
-use crate::tag::read_head;
-use key::header::Key;
+use crate::row::Span;
+use crate::row::element;
+use infoelement::element::Named;
+use infoelement::element::read_named;
+use infofield::field::Count;
+use infofield::field::Opened;
+use infofield::field::Step;
+use infofield::field::ended;
+use infofield::field::field;
+use infofield::field::numbers;
+use infofield::field::object;
+use infofield::field::open;
+use infofield::field::unnamed;
+use infofield::field::versioned;
+use infofield::field::zero;
+use infotag::tag::Head;
+use infotag::tag::read_head;
 use key::piece::Piece;
 use key::piece::read_piece;
 use wire::number::be32;
-use wire::text::same;
 
 // How many objects a list or an array holds, and the place after that number.
 pub struct Size {
@@ -42,7 +44,7 @@ pub enum Collection {
 
 // Version, TObject, no name and nObjects.
 fn read_collection(file: &[u8], at: usize, end: usize) -> Collection
-    ensures { λ r. ⌜ r ≡ collectionAt (now (file .entry)) at end ⌝ }
+    ensures { λ r. ⌜ r ≡ collectionAt (before file) at end ⌝ }
 {
     let base = match field(2, at, end) {
         Step::Next(next) => next,
@@ -74,24 +76,23 @@ fn read_collection(file: &[u8], at: usize, end: usize) -> Collection
 // So many elements of a class.
 fn elements(
     file: &[u8],
-    rec: usize,
-    class: u32,
-    from: usize,
-    end: usize,
-    tags: &mut [usize],
+    owner: Owner,
+    o: Span,
+    tags: &mut [usize; 12],
     table: &mut [u32],
     rows: usize,
     count: u32,
 ) -> Rows
-    requires { ⌜ (length (now tags) ≡ 12) × (end ≤ length (now file)) × (end ≤ rec + 2147483647) × (rows + 4294967295 < 18446744073709551616) ⌝ }
-    ensures { λ r. ⌜ Ran (times (λ i. elementAt (now (file .entry)) rec class end) (now (tags .entry)) from count)
-        (now (table .entry)) rows r (now (tags .exit)) (now (table .exit)) × Grown rows 4294967295 r ⌝ }
+    requires { ⌜ Within (owner .rec) (o .end) rows 4294967295 ⌝ }
+    ensures { λ r. ⌜ Runs (times (λ i. elementAt (before file) owner (o .end)) (before tags) (o .at) count)
+        tags table rows 4294967295 r ⌝ }
 {
-    let mut at = from;
+    let end = o.end;
+    let mut at = o.at;
     let mut n = rows;
     let mut i: u32 = 0;
     while i < count {
-        let r = element(file, rec, class, at, end, &mut *tags, &mut *table, n);
+        let r = element(file, owner, Span { at, end }, &mut *tags, &mut *table, n);
         let Rows::Next(next, more) = r else {
             return r;
         };
@@ -118,28 +119,26 @@ fn close_at(r: Rows, end: usize) -> Rows
 // A TObjArray after its tag.
 fn array_body(
     file: &[u8],
-    rec: usize,
-    class: u32,
-    at: usize,
-    end: usize,
-    tags: &mut [usize],
+    owner: Owner,
+    o: Span,
+    tags: &mut [usize; 12],
     table: &mut [u32],
     n: usize,
 ) -> Rows
-    requires { ⌜ (length (now tags) ≡ 12) × (end ≤ length (now file)) × (end ≤ rec + 2147483647) × (n + 4294967295 < 18446744073709551616) ⌝ }
-    ensures { λ r. ⌜ Ran (arrayBody (now (file .entry)) rec class end (now (tags .entry)) at)
-        (now (table .entry)) n r (now (tags .exit)) (now (table .exit)) × Grown n 4294967295 r ⌝ }
+    requires { ⌜ Within (owner .rec) (o .end) n 4294967295 ⌝ }
+    ensures { λ r. ⌜ Runs (arrayBody (before file) owner (o .end) (before tags) (o .at)) tags table n 4294967295 r ⌝ }
 {
-    let Count::Open(from, close) = open(file, at, end) else {
+    let at = o.at;
+    let Count::Open(from, end) = open(file, at, o.end) else {
         return Rows::Wrong(21, at);
     };
-    let size = match read_collection(file, from, close) {
+    let size = match read_collection(file, from, end) {
         Collection::Held(size) => size,
         Collection::Wrong(number, place) => {
             return Rows::Wrong(number, place);
         }
     };
-    let first = match zero(file, size.next, close) {
+    let at = match zero(file, size.next, end) {
         Step::Next(next) => next,
         Step::Wrong(number, place) => {
             return Rows::Wrong(number, place);
@@ -147,34 +146,29 @@ fn array_body(
     };
     let r = elements(
         file,
-        rec,
-        class,
-        first,
-        close,
+        owner,
+        Span { at, end },
         &mut *tags,
         &mut *table,
         n,
         size.count,
     );
-    close_at(r, close)
+    close_at(r, end)
 }
 
 // A TObjArray of elements.
 fn array(
     file: &[u8],
-    rec: usize,
-    class: u32,
-    at: usize,
-    end: usize,
-    tags: &mut [usize],
+    owner: Owner,
+    o: Span,
+    tags: &mut [usize; 12],
     table: &mut [u32],
     n: usize,
 ) -> Rows
-    requires { ⌜ (length (now tags) ≡ 12) × (end ≤ length (now file)) × (end ≤ rec + 2147483647) × (n + 4294967295 < 18446744073709551616) ⌝ }
-    ensures { λ r. ⌜ Ran (arrayAt (now (file .entry)) rec class end (now (tags .entry)) at)
-        (now (table .entry)) n r (now (tags .exit)) (now (table .exit)) × Grown n 4294967295 r ⌝ }
+    requires { ⌜ Within (owner .rec) (o .end) n 4294967295 ⌝ }
+    ensures { λ r. ⌜ Runs (arrayAt (before file) owner (o .end) (before tags) (o .at)) tags table n 4294967295 r ⌝ }
 {
-    let start = match read_head(file, rec, at, end, 1, 1, &*tags) {
+    let start = match read_head(file, owner.rec, o.at, o.end, 1, 1, &*tags) {
         Head::Known(start) => start,
         Head::Wrong(number, place) => {
             return Rows::Wrong(number, place);
@@ -182,85 +176,60 @@ fn array(
     };
     let k = start.class;
     tags[k] = start.offset;
-    let close = start.close;
-    let r = array_body(
-        file,
-        rec,
-        class,
-        start.next,
-        close,
-        &mut *tags,
-        &mut *table,
-        n,
-    );
-    close_at(r, close)
+    let at = start.next;
+    let end = start.close;
+    let r = array_body(file, owner, Span { at, end }, &mut *tags, &mut *table, n);
+    close_at(r, end)
 }
 
 // A TStreamerInfo after its tag.
 fn class_body(
     file: &[u8],
-    rec: usize,
-    class: u32,
-    at: usize,
-    end: usize,
-    tags: &mut [usize],
+    owner: Owner,
+    o: Span,
+    tags: &mut [usize; 12],
     table: &mut [u32],
     n: usize,
 ) -> Rows
-    requires { ⌜ (length (now tags) ≡ 12) × (end ≤ length (now file)) × (end ≤ rec + 2147483647) × (n + 4294967295 < 18446744073709551616) ⌝ }
-    ensures { λ r. ⌜ Ran (classBody (now (file .entry)) rec class end (now (tags .entry)) at)
-        (now (table .entry)) n r (now (tags .exit)) (now (table .exit)) × Grown n 4294967295 r ⌝ }
+    requires { ⌜ Within (owner .rec) (o .end) n 4294967295 ⌝ }
+    ensures { λ r. ⌜ Runs (classBody (before file) owner (o .end) (before tags) (o .at)) tags table n 4294967295 r ⌝ }
 {
-    let Count::Open(from, close) = open(file, at, end) else {
-        return Rows::Wrong(21, at);
-    };
-    let base = match field(2, from, close) {
-        Step::Next(next) => next,
-        Step::Wrong(number, place) => {
+    let body = match versioned(file, o.at, o.end) {
+        Opened::Held(body) => body,
+        Opened::Wrong(number, place) => {
             return Rows::Wrong(number, place);
         }
     };
-    let name = match read_named(file, base, close) {
+    let end = body.close;
+    let name = match read_named(file, body.from, end) {
         Named::Held(name) => name,
         Named::Wrong(number, place) => {
             return Rows::Wrong(number, place);
         }
     };
-    let array_at = match numbers(2, name.next, close) {
+    let at = match numbers(2, name.next, end) {
         Step::Next(next) => next,
         Step::Wrong(number, place) => {
             return Rows::Wrong(number, place);
         }
     };
-    let r = array(
-        file,
-        rec,
-        class,
-        array_at,
-        close,
-        &mut *tags,
-        &mut *table,
-        n,
-    );
-    close_at(r, close)
+    let r = array(file, owner, Span { at, end }, &mut *tags, &mut *table, n);
+    close_at(r, end)
 }
 
 // A TStreamerInfo.
 fn class(
     file: &[u8],
-    rec: usize,
-    index: u32,
-    at: usize,
-    end: usize,
-    tags: &mut [usize],
+    owner: Owner,
+    o: Span,
+    tags: &mut [usize; 12],
     table: &mut [u32],
     n: usize,
 ) -> Rows
-    requires { ⌜ (length (now tags) ≡ 12) × (end ≤ length (now file)) × (end ≤ rec + 2147483647) × (n + 4294967295 < 18446744073709551616) ⌝ }
-    ensures { λ r. ⌜ Ran (classAt (now (file .entry)) rec end index (now (tags .entry)) at)
-        (now (table .entry)) n r (now (tags .exit)) (now (table .exit)) × Grown n 4294967295 r ⌝ }
+    requires { ⌜ Within (owner .rec) (o .end) n 4294967295 ⌝ }
+    ensures { λ r. ⌜ Runs (classAt (before file) owner (o .end) (before tags) (o .at)) tags table n 4294967295 r ⌝ }
 {
-    let start = match read_head(file, rec, at, end, 0, 0, &*tags) {
+    let start = match read_head(file, owner.rec, o.at, o.end, 0, 0, &*tags) {
         Head::Known(start) => start,
         Head::Wrong(number, place) => {
             return Rows::Wrong(number, place);
@@ -268,39 +237,32 @@ fn class(
     };
     let k = start.class;
     tags[k] = start.offset;
-    let close = start.close;
-    let r = class_body(
-        file,
-        rec,
-        index,
-        start.next,
-        close,
-        &mut *tags,
-        &mut *table,
-        n,
-    );
-    close_at(r, close)
+    let at = start.next;
+    let end = start.close;
+    let r = class_body(file, owner, Span { at, end }, &mut *tags, &mut *table, n);
+    close_at(r, end)
 }
 
 // So many TStreamerInfo.
 fn classes(
     file: &[u8],
     rec: usize,
-    from: usize,
-    end: usize,
-    tags: &mut [usize],
+    o: Span,
+    tags: &mut [usize; 12],
     table: &mut [u32],
     count: u32,
 ) -> Rows
-    requires { ⌜ (length (now tags) ≡ 12) × (end ≤ length (now file)) × (end ≤ rec + 2147483647) ⌝ }
-    ensures { λ r. ⌜ Ran (times (classAt (now (file .entry)) rec end) (now (tags .entry)) from count)
-        (now (table .entry)) 0 r (now (tags .exit)) (now (table .exit)) ⌝ }
+    requires { ⌜ o .end ≤ rec + 2147483647 ⌝ }
+    ensures { λ r. ⌜ Ran (times (λ i. classAt (before file) (ownerOf rec i) (o .end)) (before tags) (o .at) count)
+        (before table) 0 r (after tags) (after table) ⌝ }
 {
-    let mut at = from;
+    let end = o.end;
+    let mut at = o.at;
     let mut n: usize = 0;
     let mut i: u32 = 0;
     while i < count {
-        let r = class(file, rec, i, at, end, &mut *tags, &mut *table, n);
+        let owner = Owner { rec, class: i };
+        let r = class(file, owner, Span { at, end }, &mut *tags, &mut *table, n);
         let Rows::Next(next, more) = r else {
             return r;
         };
@@ -313,7 +275,7 @@ fn classes(
 
 // The ByteCount of the list, which fills the data.
 fn open_whole(file: &[u8], at: usize, end: usize) -> Count
-    ensures { λ r. ⌜ r ≡ wholeAt (now (file .entry)) at end ⌝ }
+    ensures { λ r. ⌜ r ≡ wholeAt (before file) at end ⌝ }
 {
     let Count::Open(from, close) = open(file, at, end) else {
         return Count::Bad;
@@ -326,29 +288,29 @@ fn open_whole(file: &[u8], at: usize, end: usize) -> Count
 
 // The TList of TStreamerInfo that fills the data of a record.
 fn list(file: &[u8], rec: usize, at: usize, end: usize, table: &mut [u32]) -> Rows
-    requires { ⌜ (end ≤ length (now file)) × (end ≤ rec + 2147483647) ⌝ }
-    ensures { λ r. ⌜ Ended (listAt (now (file .entry)) rec at end) (now (table .entry)) r (now (table .exit)) ⌝ }
+    requires { ⌜ end ≤ rec + 2147483647 ⌝ }
+    ensures { λ r. ⌜ Ended (listAt (before file) rec at end) (before table) r (after table) ⌝ }
 {
-    let Count::Open(from, close) = open_whole(file, at, end) else {
+    let Count::Open(from, end) = open_whole(file, at, end) else {
         return Rows::Wrong(21, at);
     };
-    let size = match read_collection(file, from, close) {
+    let size = match read_collection(file, from, end) {
         Collection::Held(size) => size,
         Collection::Wrong(number, place) => {
             return Rows::Wrong(number, place);
         }
     };
+    let at = size.next;
     let mut tags = [0usize; 12];
     let r = classes(
         file,
         rec,
-        size.next,
-        close,
+        Span { at, end },
         &mut tags,
         &mut *table,
         size.count,
     );
-    close_at(r, close)
+    close_at(r, end)
 }
 
 // What stands at a place where no record is.
@@ -362,30 +324,9 @@ fn no_record(piece: Piece, at: usize) -> Rows
     }
 }
 
-// Whether a key is that of the StreamerInfo record: plain, of class TList and name StreamerInfo.
-fn is_info(file: &[u8], at: usize, k: Key) -> bool
-    requires { ⌜ (pieceAt (now file) at ≡ Record k) × (k .title .next ≤ length (now file)) ⌝ }
-    ensures { λ r. ⌜ r ≡ isInfo (now (file .entry)) k ⌝ }
-{
-    let class = k.class;
-    let name = k.name;
-    let title = k.title;
-    if title.next - at != k.keylen as usize {
-        return false;
-    }
-    let class_at = class.start;
-    let class_end = class.next;
-    if same(&file[class_at..class_end], b"TList") {
-        let name_at = name.start;
-        let name_end = name.next;
-        return same(&file[name_at..name_end], b"StreamerInfo");
-    }
-    false
-}
-
 // The rows of the record at a place.
 pub(crate) fn read_record(file: &[u8], at: usize, table: &mut [u32]) -> Rows
-    ensures { λ r. ⌜ Ended (infoAt (now (file .entry)) at) (now (table .entry)) r (now (table .exit)) ⌝ }
+    ensures { λ r. ⌜ Ended (infoAt (before file) at) (before table) r (after table) ⌝ }
 {
     let piece = read_piece(file, at);
     let Piece::Record(k) = piece else {

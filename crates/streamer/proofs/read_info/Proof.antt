@@ -1,7 +1,9 @@
-use lib.ListN.{length}
-use native.Mathlib.Omega.{arith}
-use Rattle.streamer.specs.Info.{infoAnswer, infoTable}
+use denote.Ref.{now}
 use Rattle.streamer.proofs.Runs.{answer-rows, answer-many, answer-stop}
+use Rattle.streamer.specs.Info.{infoAnswer, infoTable}
+use mathlib.Core.Path.{_∙_}
+use native.Mathlib.Omega.{arith}
+use lib.ListN.{length}
 use borrow.Author.Needs.{needs}
 use Rattle.streamer.proofs.read_info.Statement.{statement}
 use Rattle.streamer.proofs.read_info.Tie as tie
@@ -23,7 +25,20 @@ same-length c = search needs
 
 returns : tie.Need-returns
 unfolding infoAnswer infoTable
-returns c = let k = c .before .before .before .before .before .before .before .before .before .before .read-record .kept in let l = c .before .before .before .before .before .before .before .before .before .before .before .before .before .before .clear .kept in answer-many _ _ _ _ (c .before .before .before .before .before .before .before .before .before .before .before .before .before .before .clear .ensures) (c .before .before .before .before .before .before .before .before .before .before .read-record .ensures) (c .before .before .before .before .before .before .-next .given .1) (omega (arith, k .1 .1 .0, l .0)) (length (c .before .before .before .before .before .before .before .before .before .before .read-record .last .1 .1 .0)) (c .before .before .clear2 .ensures) (omega (arith, k .1 .1 .0, l .0))
+returns c =
+    let k = c .before .before .before .before .before .before .before .before .before .before .read-record .kept in
+    let l = c .before .before .before .before .before .before .before .before .before .before .before .before .before .before .clear .kept in
+    answer-many _ _ _ _ (c .before .before .before .before .before .before .before .before .before .before .read-record .ensures) {k = length (c
+    .before .before .before .before .before .before .before .before .before .before .read-record .last .1 .1 .0)} (c .before .before .clear2
+    .ensures) (omega (arith, k .1 .1 .0, l .0)) (c .before .before .before .before .before .before .-next .given .1) (omega (
+      arith,
+      k .1 .1 .0,
+      l
+          .0,
+    ))
+
+finished-requires : tie.Need-finished-requires
+finished-requires c κs = search needs
 
 enum-known-number : tie.Need-enum-known-number
 enum-known-number c = search needs
@@ -31,22 +46,40 @@ enum-known-number c = search needs
 clear-requires-3 : tie.Need-clear-requires-3
 clear-requires-3 c κs = search needs
 
-cast-t26 : tie.Need-cast-t26
-cast-t26 c = search needs
+cast-refused : tie.Need-cast-refused
+cast-refused c = search needs
+
+refused-requires : tie.Need-refused-requires
+refused-requires c κs = search needs
 
 same-length-2 : tie.Need-same-length-2
 same-length-2 c = search needs
 
 returns-2 : tie.Need-returns-2
 unfolding infoAnswer infoTable
-returns-2 c = let k = c .before .before .before .before .before .before .read-record .kept in let l = c .before .before .before .before .before .before .before .before .before .before .clear .kept in answer-rows _ _ _ (c .before .before .before .before .before .before .before .before .before .before .clear .ensures) (c .before .before .before .before .before .before .read-record .ensures) (c .before .before .-next .given .1) (omega (arith, k .1 .1 .0, l .0))
+returns-2 c =
+    let k = c .before .before .before .before .before .before .before .read-record .kept in
+    let l = c .before .before .before .before .before .before .before .before .before .before .before .clear .kept in
+    let y = answer-rows (length (now (c .before .before .before .before .before .before .before .before .before .before .before .before .before
+    .before .before .args .table))) _ _ _ (c .before .before .before .before .before .before .before .read-record .ensures) (c .before .before
+    .before .before .before .before .before .before .before .before .before .clear .ensures) (c .before .before .before .-next .given .1) (omega
+    (arith, k .1 .1 .0, l .0)) in
+    (c .finished .ensures ∙ y .0, y .1)
 
 same-length-3 : tie.Need-same-length-3
 same-length-3 c = search needs
 
 returns-3 : tie.Need-returns-3
 unfolding infoAnswer infoTable
-returns-3 c = let k = c .before .before .before .before .before .before .before .before .before .read-record .kept in let l = c .before .before .before .before .before .before .before .before .before .before .before .before .before .clear .kept in answer-stop _ _ _ _ _ (c .before .before .before .before .before .before .before .before .before .read-record .ensures) (c .before .before .before .before .before .number .given .1) (length (c .before .before .before .before .before .before .before .before .before .read-record .last .1 .1 .0)) (c .before .before .clear3 .ensures) (omega (arith, k .1 .1 .0, l .0))
+returns-3 c =
+    let k = c .before .before .before .before .before .before .before .before .before .before .read-record .kept in
+    let l = c .before .before .before .before .before .before .before .before .before .before .before .before .before .before .clear .kept in
+    let y = answer-stop (length (now (c .before .before .before .before .before .before .before .before .before .before .before .before .before
+    .before .before .before .before .before .args .table))) _ _ _ (c .before .before .before .before .before .before .before .before .before .before
+    .read-record .ensures) {k = length (c .before .before .before .before .before .before .before .before .before .before .read-record .last .1 .1
+    .0)} (c .before .before .before .clear3 .ensures) (omega (arith, k .1 .1 .0, l .0)) (c .before .before .before .before .before .before .number
+    .given .1) in
+    (c .refused .ensures ∙ y .0, y .1)
 
 pub read-info-spec : {M : Type 1} → statement M
 read-info-spec =
@@ -58,9 +91,11 @@ read-info-spec =
     clear-requires-2
     same-length
     returns
+    finished-requires
     enum-known-number
     clear-requires-3
-    cast-t26
+    cast-refused
+    refused-requires
     same-length-2
     returns-2
     same-length-3

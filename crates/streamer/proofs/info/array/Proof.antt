@@ -1,10 +1,8 @@
-use lib.ListN.{length-set}
-use native.Mathlib.Omega.{arith}
-use mathlib.Core.Path.{refl, _∙_}
-use Rattle.streamer.specs.Info.{arrayAt}
-use Rattle.streamer.proofs.Members.{go-head, halt-head}
-use Rattle.streamer.proofs.Tags.{head-bounds}
 use Rattle.streamer.proofs.Runs.{as-run, ran-stop, ran-ends, not-grown, grown-ends}
+use Rattle.streamer.specs.Info.{arrayAt}
+use Rattle.infotag.proofs.Tags.{go-head, halt-head, head-bounds}
+use mathlib.Core.Path.{refl}
+use native.Mathlib.Omega.{arith}
 use borrow.Author.Needs.{needs}
 use Rattle.streamer.proofs.info.array.Statement.{statement}
 use Rattle.streamer.proofs.info.array.Tie as tie
@@ -18,34 +16,37 @@ enum-known-start c = search needs
 enum-known-number : tie.Need-enum-known-number
 enum-known-number c = search needs
 
-same-length : tie.Need-same-length
-same-length c = search needs
-
 returns : tie.Need-returns
 unfolding arrayAt
 returns c = (ran-stop _ _ _ _ (halt-head _ _ (c .before .before .before .read-head .ensures) (c .before .number .given .1)), not-grown _ _ _ _)
 
 mul-tags : tie.Need-mul-tags
-mul-tags c = let h = head-bounds _ _ _ _ _ _ _ (c .before .before .before .read-head .ensures) (c .before .start .given .1) in let a = c .before .before .before .before .before .before .before .before .pre in omega (arith, h, a)
+mul-tags c = let h = head-bounds _ _ _ _ _ _ _ (c .before .before .before .read-head .ensures) (c .before .start .given .1) in omega (arith, h)
 
-slice-write-tags : tie.Need-slice-write-tags
-slice-write-tags c = let h = head-bounds _ _ _ _ _ _ _ (c .before .before .before .read-head .ensures) (c .before .start .given .1) in let a = c .before .before .before .before .before .before .before .before .pre in omega (arith, h, a)
+element-write-tags : tie.Need-element-write-tags
+element-write-tags c =
+    let h = head-bounds _ _ _ _ _ _ _ (c .before .before .before .read-head .ensures) (c .before .start .given .1) in
+    omega (arith, h)
 
 array-body-requires : tie.Need-array-body-requires
-array-body-requires c κs = let h = head-bounds _ _ _ _ _ _ _ (c .before .before .before .before .before .read-head .ensures) (c .before .before .before .start .given .1) in let a = c .before .before .before .before .before .before .before .before .before .before .pre in rw length-set (omega (arith, h, a))
+array-body-requires c κs =
+    let h = head-bounds _ _ _ _ _ _ _ (c .before .before .before .before .before .read-head .ensures) (c .before .before .before .start .given .1) in
+    omega (arith, h, c .before .before .before .before .before .before .before .before .before .before .pre)
 
 close-at-requires : tie.Need-close-at-requires
 close-at-requires c κs = search needs
 
-same-length-2 : tie.Need-same-length-2
-same-length-2 c = c .before .before .before .before .before .array-body .kept .1 .1 .1 .1 .1 .0 ∙ simp length-set
-
-same-length-3 : tie.Need-same-length-3
-same-length-3 c = search needs
+same-length : tie.Need-same-length
+same-length c = search needs
 
 returns-2 : tie.Need-returns-2
 unfolding arrayAt
-returns-2 c = (as-run _ _ _ _ _ (go-head _ _ (c .before .before .before .before .before .before .before .before .before .before .before .read-head .ensures) (c .before .before .before .before .before .before .before .before .before .start .given .1) (refl)) (ran-ends _ _ _ _ _ _ _ _ (c .before .before .before .before .before .array-body .ensures .0) (c .close-at .ensures)), grown-ends _ _ _ _ _ (c .before .before .before .before .before .array-body .ensures .1) (c .close-at .ensures))
+returns-2 c = (
+  as-run _ _ _ _ _ (go-head _ _ (c .before .before .before .before .before .before .before .before .before .read-head .ensures) (c .before .before
+      .before .before .before .before .before .start .given .1) refl) (ran-ends _ _ _ _ _ _ _ _ (c .before .before .before .array-body .ensures .0) (c
+      .close-at .ensures)),
+  grown-ends _ _ _ _ _ (c .before .before .before .array-body .ensures .1) (c .close-at .ensures),
+)
 
 pub array-spec : {M : Type 1} → statement M
 array-spec =
@@ -54,12 +55,10 @@ array-spec =
     read-head-requires
     enum-known-start
     enum-known-number
-    same-length
     returns
     mul-tags
-    slice-write-tags
+    element-write-tags
     array-body-requires
     close-at-requires
-    same-length-2
-    same-length-3
+    same-length
     returns-2)

@@ -1,38 +1,25 @@
-use native.Mathlib.Omega.{arith}
-use mathlib.Core.Path.{refl}
-use Rattle.streamer.specs.Info.{classBody}
-use Rattle.streamer.proofs.Steps.{go-on, halt, opens, opens-not, from-open}
-use Rattle.streamer.proofs.Members.{go-name, halt-name}
 use Rattle.streamer.proofs.Runs.{as-run, ran-stop, ran-ends, not-grown, grown-ends}
+use Rattle.streamer.specs.Info.{classBody}
+use Rattle.infoelement.proofs.Members.{go-name, halt-name}
+use Rattle.infofield.proofs.Steps.{go-on, halt, go-opened, halt-opened, from-versioned}
+use mathlib.Core.Path.{refl}
+use native.Mathlib.Omega.{arith}
 use borrow.Author.Needs.{needs}
 use Rattle.streamer.proofs.info.class_body.Statement.{statement}
 use Rattle.streamer.proofs.info.class_body.Tie as tie
 
-open-requires : tie.Need-open-requires
-open-requires c κs = search needs
+versioned-requires : tie.Need-versioned-requires
+versioned-requires c κs = search needs
 
-enum-known-from : tie.Need-enum-known-from
-enum-known-from c = search needs
-
-enum-told : tie.Need-enum-told
-enum-told c = search needs
-
-returns : tie.Need-returns
-unfolding classBody
-returns c = (ran-stop _ _ _ _ (opens-not _ _ _ (c .before .before .«open» .ensures) (c .enum-told .given .1)), not-grown _ _ _ _)
-
-field-requires : tie.Need-field-requires
-field-requires c κs = search needs
-
-enum-known-next : tie.Need-enum-known-next
-enum-known-next c = search needs
+enum-known-body : tie.Need-enum-known-body
+enum-known-body c = search needs
 
 enum-known-number : tie.Need-enum-known-number
 enum-known-number c = search needs
 
-returns-2 : tie.Need-returns-2
+returns : tie.Need-returns
 unfolding classBody
-returns-2 c = (ran-stop _ _ _ _ (opens _ _ _ (c .before .before .before .before .before .before .before .«open» .ensures) (c .before .before .before .before .before .from .given .1) (halt _ _ (c .before .before .before .field .ensures) (c .before .number .given .1))), not-grown _ _ _ _)
+returns c = (ran-stop _ _ _ _ (halt-opened _ _ (c .before .before .before .versioned .ensures) (c .before .number .given .1)), not-grown _ _ _ _)
 
 read-named-requires : tie.Need-read-named-requires
 read-named-requires c κs = search needs
@@ -43,25 +30,44 @@ enum-known-name c = search needs
 enum-known-number-2 : tie.Need-enum-known-number-2
 enum-known-number-2 c = search needs
 
-returns-3 : tie.Need-returns-3
+returns-2 : tie.Need-returns-2
 unfolding classBody
-returns-3 c = (ran-stop _ _ _ _ (opens _ _ _ (c .before .before .before .before .before .before .before .before .before .before .before .«open» .ensures) (c .before .before .before .before .before .before .before .before .before .from .given .1) (go-on _ _ (c .before .before .before .before .before .before .before .field .ensures) (c .before .before .before .before .before .next .given .1) (halt-name _ _ (c .before .before .before .read-named .ensures .0) (c .before .number2 .given .1)))), not-grown _ _ _ _)
+returns-2 c = (
+  ran-stop _ _ _ _ (go-opened _ _ (c .before .before .before .before .before .before .before .versioned .ensures) (c .before .before .before
+      .before .before .body .given .1) (halt-name _ _ (c .before .before .before .read-named .ensures) (c .before .number2 .given .1))),
+  not-grown _ _
+      _ _,
+)
 
 numbers-requires : tie.Need-numbers-requires
 numbers-requires c κs = search needs
 
-enum-known-next-2 : tie.Need-enum-known-next-2
-enum-known-next-2 c = search needs
+enum-known-next : tie.Need-enum-known-next
+enum-known-next c = search needs
 
 enum-known-number-3 : tie.Need-enum-known-number-3
 enum-known-number-3 c = search needs
 
-returns-4 : tie.Need-returns-4
+returns-3 : tie.Need-returns-3
 unfolding classBody
-returns-4 c = (ran-stop _ _ _ _ (opens _ _ _ (c .before .before .before .before .before .before .before .before .before .before .before .before .before .before .before .«open» .ensures) (c .before .before .before .before .before .before .before .before .before .before .before .before .before .from .given .1) (go-on _ _ (c .before .before .before .before .before .before .before .before .before .before .before .field .ensures) (c .before .before .before .before .before .before .before .before .before .next .given .1) (go-name _ _ (c .before .before .before .before .before .before .before .read-named .ensures .0) (c .before .before .before .before .before .name .given .1) (halt _ _ (c .before .before .before .numbers .ensures) (c .before .number3 .given .1))))), not-grown _ _ _ _)
+returns-3 c = (
+  ran-stop _ _ _ _ (go-opened _ _ (c .before .before .before .before .before .before .before .before .before .before .before .versioned .ensures)
+      (c .before .before .before .before .before .before .before .before .before .body .given .1) (go-name _ _ (c .before .before .before .before
+      .before .before .before .read-named .ensures) (c .before .before .before .before .before .name .given .1) (halt _ _ (c .before .before .before
+      .numbers .ensures) (c .before .number3 .given .1)))),
+  not-grown _ _ _ _,
+)
 
 array-requires : tie.Need-array-requires
-array-requires c κs = let o = from-open _ _ _ (c .before .before .before .before .before .before .before .before .before .before .before .before .before .before .before .before .before .«open» .ensures) (c .before .before .before .before .before .before .before .before .before .before .before .before .before .before .before .from .given .1) in let p = c .before .before .before .before .before .before .before .before .before .before .before .before .before .before .before .before .before .before .before .before .before .pre in omega (arith, o, p)
+array-requires c κs =
+    let b = from-versioned _ _ _ (c .before .before .before .before .before .before .before .before .before .before .before .before .before
+    .versioned .ensures) (c .before .before .before .before .before .before .before .before .before .before .before .body .given .1) in
+    omega (
+      arith,
+      b,
+      c .before .before .before .before .before .before .before .before .before .before .before .before .before .before .before
+          .before .pre,
+    )
 
 close-at-requires : tie.Need-close-at-requires
 close-at-requires c κs = search needs
@@ -69,35 +75,36 @@ close-at-requires c κs = search needs
 same-length : tie.Need-same-length
 same-length c = search needs
 
-same-length-2 : tie.Need-same-length-2
-same-length-2 c = search needs
-
-returns-5 : tie.Need-returns-5
+returns-4 : tie.Need-returns-4
 unfolding classBody
-returns-5 c = (as-run _ _ _ _ _ (opens _ _ _ (c .before .before .before .before .before .before .before .before .before .before .before .before .before .before .before .before .before .before .before .before .before .before .before .«open» .ensures) (c .before .before .before .before .before .before .before .before .before .before .before .before .before .before .before .before .before .before .before .before .before .from .given .1) (go-on _ _ (c .before .before .before .before .before .before .before .before .before .before .before .before .before .before .before .before .before .before .before .field .ensures) (c .before .before .before .before .before .before .before .before .before .before .before .before .before .before .before .before .before .next .given .1) (go-name _ _ (c .before .before .before .before .before .before .before .before .before .before .before .before .before .before .before .read-named .ensures .0) (c .before .before .before .before .before .before .before .before .before .before .before .before .before .name .given .1) (go-on _ _ (c .before .before .before .before .before .before .before .before .before .before .before .numbers .ensures) (c .before .before .before .before .before .before .before .before .before .next2 .given .1) (refl))))) (ran-ends _ _ _ _ _ _ _ _ (c .before .before .before .before .before .array .ensures .0) (c .close-at .ensures)), grown-ends _ _ _ _ _ (c .before .before .before .before .before .array .ensures .1) (c .close-at .ensures))
+returns-4 c = (
+  as-run _ _ _ _ _ (go-opened _ _ (c .before .before .before .before .before .before .before .before .before .before .before .before .before
+      .before .before .before .before .versioned .ensures) (c .before .before .before .before .before .before .before .before .before .before .before
+      .before .before .before .before .body .given .1) (go-name _ _ (c .before .before .before .before .before .before .before .before .before .before
+      .before .before .before .read-named .ensures) (c .before .before .before .before .before .before .before .before .before .before .before .name
+      .given .1) (go-on _ _ (c .before .before .before .before .before .before .before .before .before .numbers .ensures) (c .before .before .before
+      .before .before .before .before .next .given .1) refl))) (ran-ends _ _ _ _ _ _ _ _ (c .before .before .before .array .ensures .0) (c .close-at
+      .ensures)),
+  grown-ends _ _ _ _ _ (c .before .before .before .array .ensures .1) (c .close-at .ensures),
+)
 
 pub class-body-spec : {M : Type 1} → statement M
 class-body-spec =
     tie.close
     (tie.spec
-    open-requires
-    enum-known-from
-    enum-told
-    returns
-    field-requires
-    enum-known-next
+    versioned-requires
+    enum-known-body
     enum-known-number
-    returns-2
+    returns
     read-named-requires
     enum-known-name
     enum-known-number-2
-    returns-3
+    returns-2
     numbers-requires
-    enum-known-next-2
+    enum-known-next
     enum-known-number-3
-    returns-4
+    returns-3
     array-requires
     close-at-requires
     same-length
-    same-length-2
-    returns-5)
+    returns-4)

@@ -1,23 +1,30 @@
-use borrow.Author.Needs.{needs}
-use Prim.Native.Nat.{_*_, _-_, _≤_}
-use native.Mathlib.Omega.{arith}
-use mathlib.Core.Path.{_∙_}
-use Rattle.streamer.specs.Info.{classAt}
 use Rattle.streamer.proofs.Runs.{Reading, read-began, read-more, read-ended, read-stopped, grown-by}
+use Rattle.streamer.specs.Info.{classAt, ownerOf}
+use native.Mathlib.Omega.{arith}
+use Prim.Native.Nat.{ℕ, _*_, _-_, _≤_}
+use borrow.Author.Needs.{needs}
 use Rattle.streamer.proofs.info.classes.Statement.{statement}
 use Rattle.streamer.proofs.info.classes.Tie as tie
 
 abbrev Inv-loop : tie.InvT-loop
-Inv-loop file rec from end tags₀ table₀ count at₀ n₀ i₀ tags table at n i = Reading (classAt file rec end) tags₀ from table₀ 0 i tags at table n × ((i ≤ count) × (n ≤ i * 4294967295))
+Inv-loop file rec tags₀ table₀ count end at₀ n₀ i₀ tags table at n i =
+    Reading (λ (j : ℕ). classAt file (ownerOf rec j) end) tags₀ at₀ table₀ 0 i tags at table n × ((i ≤ count) × (n ≤ i * 4294967295))
 
 abbrev μ-loop : tie.MeasureT-loop
-μ-loop file rec from end tags₀ table₀ count at₀ n₀ i₀ tags table at n i = count - i
+μ-loop file rec tags₀ table₀ count end at₀ n₀ i₀ tags table at n i = count - i
 
 loop-holds : tie.Need-loop-holds Inv-loop μ-loop
 loop-holds c = (read-began _ _ _ _ _, (omega arith, omega arith))
 
 class-requires : tie.Need-class-requires Inv-loop μ-loop
-class-requires c κs = let w = c .before .before .before .loop .inv in let p = c .before .before .before .before .before .before .before .pre in omega (arith, w .0 .tags, w .1, p, c .before .before .before .before .before .before .before .fits)
+class-requires c κs =
+    omega (
+      arith,
+      c .before .before .before .loop .inv .1,
+      c .before .before .before .before .before .before .pre,
+      c .before .before .before .before
+          .before .before .fits,
+    )
 
 enum-known-r : tie.Need-enum-known-r Inv-loop μ-loop
 enum-known-r c = search needs
@@ -26,13 +33,12 @@ enum-told : tie.Need-enum-told Inv-loop μ-loop
 enum-told c = search needs
 
 same-length : tie.Need-same-length Inv-loop μ-loop
-same-length c = c .before .before .before .before .before .before .class .kept .1 .1 .1 .1 .1 .0 ∙ c .before .before .before .before .before .before .before .before .before .before .loop .inv .0 .tags
-
-same-length-2 : tie.Need-same-length-2 Inv-loop μ-loop
-same-length-2 c = c .before .before .before .before .before .before .class .kept .1 .1 .1 .1 .1 .1 .0 ∙ c .before .before .before .before .before .before .before .before .before .before .loop .inv .0 .table
+same-length c = search needs
 
 returns : tie.Need-returns Inv-loop μ-loop
-returns c = read-stopped (c .before .before .before .before .before .before .before .before .before .before .loop .inv .0) _ _ _ _ (omega arith) (c .before .before .before .before .before .before .class .ensures .0) (c .enum-told .given .1)
+returns c =
+    read-stopped (c .before .before .before .before .before .before .before .before .loop .inv .0) _ _ _ _ (omega arith) (c .before .before .before
+    .before .class .ensures .0) (c .enum-told .given .1)
 
 add-i : tie.Need-add-i Inv-loop μ-loop
 add-i c = search needs
@@ -41,13 +47,23 @@ loop-less : tie.Need-loop-less Inv-loop μ-loop
 loop-less c = search needs
 
 loop-again : tie.Need-loop-again Inv-loop μ-loop
-loop-again c = let w = c .before .before .before .before .before .before .before .before .before .before .before .loop .inv in let k = c .before .before .before .before .before .before .before .class .kept in let g = grown-by _ _ (c .before .before .before .before .before .before .before .class .ensures .1) (c .before .r .given .1) in (read-more (w .0) _ (c .before .before .before .before .before .before .before .class .ensures .0) (c .before .r .given .1) (k .1 .1 .1 .1 .1 .0) (k .1 .1 .1 .1 .1 .1 .0), (omega arith, omega (arith, g, w .1)))
+loop-again c =
+    let w = c .before .before .before .before .before .before .before .before .before .loop .inv in
+    let g = grown-by _ _ (c .before .before .before .before .before .class .ensures .1) (c .before .r .given .1) in (
+      read-more (w .0) _ (c .before .before .before .before .before .class .ensures .0) (c .before .r .given .1) (search needs),
+      (
+        omega arith,
+        omega (
+          arith,
+          g,
+          w
+              .1,
+        ),
+      ),
+    )
 
-same-length-3 : tie.Need-same-length-3 Inv-loop μ-loop
-same-length-3 c = c .before .loop .inv .0 .tags
-
-same-length-4 : tie.Need-same-length-4 Inv-loop μ-loop
-same-length-4 c = c .before .loop .inv .0 .table
+same-length-2 : tie.Need-same-length-2 Inv-loop μ-loop
+same-length-2 c = c .before .loop .inv .0 .table
 
 returns-2 : tie.Need-returns-2 Inv-loop μ-loop
 returns-2 c = read-ended (c .before .loop .inv .0) _ (omega arith)
@@ -63,11 +79,9 @@ classes-spec =
     enum-known-r
     enum-told
     same-length
-    same-length-2
     returns
     add-i
     loop-less
     loop-again
-    same-length-3
-    same-length-4
+    same-length-2
     returns-2)

@@ -1,9 +1,9 @@
-use native.Mathlib.Omega.{arith}
-use mathlib.Core.Path.{refl}
-use Rattle.streamer.specs.Info.{listAt}
-use Rattle.streamer.proofs.Steps.{opens, opens-not}
-use Rattle.streamer.proofs.Records.{go-sized, halt-sized, from-whole}
 use Rattle.streamer.proofs.Runs.{as-run, ran-ends, ended-stop, ended-of}
+use Rattle.streamer.proofs.Records.{go-sized, halt-sized, from-whole}
+use Rattle.streamer.specs.Info.{listAt}
+use Rattle.infofield.proofs.Steps.{opens, opens-not}
+use mathlib.Core.Path.{refl}
+use native.Mathlib.Omega.{arith}
 use borrow.Author.Needs.{needs}
 use Rattle.streamer.proofs.info.list.Statement.{statement}
 use Rattle.streamer.proofs.info.list.Tie as tie
@@ -32,13 +32,15 @@ enum-known-number c = search needs
 
 returns-2 : tie.Need-returns-2
 unfolding listAt
-returns-2 c = ended-stop _ _ (opens _ _ _ (c .before .before .before .before .before .before .before .open-whole .ensures) (c .before .before .before .before .before .from .given .1) (halt-sized _ _ (c .before .before .before .read-collection .ensures) (c .before .number .given .1)))
-
-slice-aggregate-classes : tie.Need-slice-aggregate-classes
-slice-aggregate-classes c = search needs
+returns-2 c =
+    ended-stop _ _ (opens _ _ _ (c .before .before .before .before .before .before .before .open-whole .ensures) (c .before .before .before .before
+    .before .from .given .1) (halt-sized _ _ (c .before .before .before .read-collection .ensures) (c .before .number .given .1)))
 
 classes-requires : tie.Need-classes-requires
-classes-requires c κs = let o = from-whole _ _ _ (c .before .before .before .before .before .before .before .before .before .open-whole .ensures) (c .before .before .before .before .before .before .before .from .given .1) in let p = c .before .before .before .before .before .before .before .before .before .before .before .before .pre in omega (arith, o, p)
+classes-requires c κs =
+    let b = from-whole _ _ _ (c .before .before .before .before .before .before .before .before .before .open-whole .ensures) (c .before .before
+    .before .before .before .before .before .from .given .1) in
+    omega (arith, b, c .before .before .before .before .before .before .before .before .before .before .before .before .pre)
 
 close-at-requires : tie.Need-close-at-requires
 close-at-requires c κs = search needs
@@ -48,7 +50,12 @@ same-length c = search needs
 
 returns-3 : tie.Need-returns-3
 unfolding listAt
-returns-3 c = ended-of _ _ _ _ _ (as-run _ _ _ _ _ (opens _ _ _ (c .before .before .before .before .before .before .before .before .before .before .before .before .before .before .open-whole .ensures) (c .before .before .before .before .before .before .before .before .before .before .before .before .from .given .1) (go-sized _ _ (c .before .before .before .before .before .before .before .before .before .before .read-collection .ensures) (c .before .before .before .before .before .before .before .before .size .given .1) (refl))) (ran-ends _ _ _ _ _ _ _ _ (c .before .before .before .before .classes .ensures) (c .close-at .ensures)))
+returns-3 c =
+    ended-of _ _ _ _ _ (as-run _ _ _ _ _ (opens _ _ _ (c .before .before .before .before .before .before .before .before .before .before .before
+    .before .before .open-whole .ensures) (c .before .before .before .before .before .before .before .before .before .before .before .from .given .1)
+    (go-sized _ _ (c .before .before .before .before .before .before .before .before .before .read-collection .ensures) (c .before .before .before
+    .before .before .before .before .size .given .1) refl)) (ran-ends _ _ _ _ _ _ _ _ (c .before .before .before .classes .ensures) (c .close-at
+    .ensures)))
 
 pub list-spec : {M : Type 1} → statement M
 list-spec =
@@ -62,7 +69,6 @@ list-spec =
     enum-known-size
     enum-known-number
     returns-2
-    slice-aggregate-classes
     classes-requires
     close-at-requires
     same-length

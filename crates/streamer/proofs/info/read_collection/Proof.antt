@@ -1,5 +1,5 @@
 use Rattle.streamer.specs.Info.{collectionAt}
-use Rattle.streamer.proofs.Steps.{go-on, halt}
+use Rattle.infofield.proofs.Steps.{go-on, halt}
 use borrow.Author.Needs.{needs}
 use Rattle.streamer.proofs.info.read_collection.Statement.{statement}
 use Rattle.streamer.proofs.info.read_collection.Tie as tie
@@ -28,7 +28,9 @@ enum-known-number-2 c = search needs
 
 returns-2 : tie.Need-returns-2
 unfolding collectionAt
-returns-2 c = go-on _ _ (c .before .before .before .before .before .before .before .field .ensures) (c .before .before .before .before .before .next .given .1) (halt _ _ (c .before .before .before .object .ensures) (c .before .number2 .given .1))
+returns-2 c =
+    go-on _ _ (c .before .before .before .before .before .before .before .field .ensures) (c .before .before .before .before .before .next
+    .given .1) (halt _ _ (c .before .before .before .object .ensures) (c .before .number2 .given .1))
 
 unnamed-requires : tie.Need-unnamed-requires
 unnamed-requires c κs = search needs
@@ -41,7 +43,11 @@ enum-known-number-3 c = search needs
 
 returns-3 : tie.Need-returns-3
 unfolding collectionAt
-returns-3 c = go-on _ _ (c .before .before .before .before .before .before .before .before .before .before .before .field .ensures) (c .before .before .before .before .before .before .before .before .before .next .given .1) (go-on _ _ (c .before .before .before .before .before .before .before .object .ensures) (c .before .before .before .before .before .next2 .given .1) (halt _ _ (c .before .before .before .unnamed .ensures) (c .before .number3 .given .1)))
+returns-3 c =
+    go-on _ _ (c .before .before .before .before .before .before .before .before .before .before .before .field .ensures) (c .before
+    .before .before .before .before .before .before .before .before .next .given .1) (go-on _ _ (c .before .before .before .before .before
+    .before .before .object .ensures) (c .before .before .before .before .before .next2 .given .1) (halt _ _ (c .before .before .before
+    .unnamed .ensures) (c .before .number3 .given .1)))
 
 field-requires-2 : tie.Need-field-requires-2
 field-requires-2 c κs = search needs
@@ -57,11 +63,24 @@ enum-known-number-4 c = search needs
 
 returns-4 : tie.Need-returns-4
 unfolding collectionAt
-returns-4 c = go-on _ _ (c .before .before .before .before .before .before .before .before .before .before .before .before .before .before .before .before .field .ensures) (c .before .before .before .before .before .before .before .before .before .before .before .before .before .before .next .given .1) (go-on _ _ (c .before .before .before .before .before .before .before .before .before .before .before .before .object .ensures) (c .before .before .before .before .before .before .before .before .before .before .next2 .given .1) (go-on _ _ (c .before .before .before .before .before .before .before .before .unnamed .ensures) (c .before .before .before .before .before .before .next3 .given .1) (go-on _ _ (c .before .before .before .before .field2 .ensures) (c .before .before .next4 .given .1) (rw (← (c .be32 .ensures))))))
+returns-4 c =
+    go-on _ _ (c .before .before .before .before .before .before .before .before .before .before .before .before .before .before .before
+    .before .field .ensures) (c .before .before .before .before .before .before .before .before .before .before .before .before .before
+    .before .next .given .1) (go-on _ _ (c .before .before .before .before .before .before .before .before .before .before .before .before
+    .object .ensures) (c .before .before .before .before .before .before .before .before .before .before .next2 .given .1) (go-on _ _ (c
+    .before .before .before .before .before .before .before .before .unnamed .ensures) (c .before .before .before .before .before .before
+    .next3 .given .1) (go-on _ _ (c .before .before .before .before .field2 .ensures) (c .before .before .next4 .given .1) (rw (← (c .be32
+    .ensures))))))
 
 returns-5 : tie.Need-returns-5
 unfolding collectionAt
-returns-5 c = go-on _ _ (c .before .before .before .before .before .before .before .before .before .before .before .before .before .before .before .field .ensures) (c .before .before .before .before .before .before .before .before .before .before .before .before .before .next .given .1) (go-on _ _ (c .before .before .before .before .before .before .before .before .before .before .before .object .ensures) (c .before .before .before .before .before .before .before .before .before .next2 .given .1) (go-on _ _ (c .before .before .before .before .before .before .before .unnamed .ensures) (c .before .before .before .before .before .next3 .given .1) (halt _ _ (c .before .before .before .field2 .ensures) (c .before .number4 .given .1))))
+returns-5 c =
+    go-on _ _ (c .before .before .before .before .before .before .before .before .before .before .before .before .before .before .before
+    .field .ensures) (c .before .before .before .before .before .before .before .before .before .before .before .before .before .next
+    .given .1) (go-on _ _ (c .before .before .before .before .before .before .before .before .before .before .before .object .ensures) (c
+    .before .before .before .before .before .before .before .before .before .next2 .given .1) (go-on _ _ (c .before .before .before .before
+    .before .before .before .unnamed .ensures) (c .before .before .before .before .before .next3 .given .1) (halt _ _ (c .before .before
+    .before .field2 .ensures) (c .before .number4 .given .1))))
 
 pub read-collection-spec : {M : Type 1} → statement M
 read-collection-spec =

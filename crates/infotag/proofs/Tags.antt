@@ -1,0 +1,160 @@
+-- Tags: what is answered, from facts, and what an answer says.
+use Prim.Native.Nat.{ℕ, _-_, _<_, _≤_}
+use mathlib.Core.List.{List}
+use mathlib.Core.Bool.{Bool, true, false}
+use mathlib.Core.Path.{_≡_, refl, sym, _∙_}
+use mathlib.Core.Logic.{⊎-elim}
+use native.Mathlib.Omega.{arith}
+use borrow.Author.Tests.{eq-eqb, ne-eqb, le-leb, lt-leb}
+use lib.Dec.{leb, eqb}
+use Rattle.wire.specs.Check.{Check, all, All, pick}
+use Rattle.wire.specs.Number.{numAt}
+use Rattle.wire.proofs.Checks.{yes-all, not-all, all-or, picked, not-picked}
+use Rattle.infofield.specs.Field.{andThen, fieldAt, countAt, counted}
+use Rattle.infofield.proofs.Steps.{each-step, each-count, from-open}
+use Rattle.infotag.specs.Tag.{firstIn, classNameAt, allowed, fresh, onName, newTag, onOffset, oldTag, tagAt, onTag, headAt, headed}
+use Rattle.infofield.specs.declared.field.Step.{Step}
+use Rattle.infofield.specs.declared.field.Step.the-variants as step
+use Rattle.infofield.specs.declared.field.Count.{Count}
+use Rattle.infofield.specs.declared.field.Count.the-variants.{Open, Bad}
+use Rattle.infotag.specs.declared.tag.First.{First}
+use Rattle.infotag.specs.declared.tag.First.the-variants.{At, Nowhere}
+use Rattle.infotag.specs.declared.tag.Class.{Class}
+use Rattle.infotag.specs.declared.tag.Class.the-variants.{Named, Cut}
+use Rattle.infotag.specs.declared.tag.Tag.{Tag}
+use Rattle.infotag.specs.declared.tag.Tag.the-variants.{Known, Wrong}
+use Rattle.infotag.specs.declared.tag.Start.{Start}
+use Rattle.infotag.specs.declared.tag.Head.{Head}
+use Rattle.infotag.specs.declared.tag.Head.the-variants as head
+
+-- a new tag
+module _ (s : List ℕ) (rec p q e low high : ℕ) (ts : List ℕ) {y : Class} (is : y ≡ classNameAt s q e) where
+  pub name-cut : y ≡ Cut → Wrong 21 p ≡ newTag s rec p q e low high ts
+  unfolding newTag
+  name-cut g = rw (sym is ∙ g)
+
+  pub misnamed : {c r : ℕ} → y ≡ Named c r → (All (fresh ts low high c) → ⊥) → Wrong 22 p ≡ newTag s rec p q e low high ts
+  unfolding newTag
+  misnamed {c} g h = rw (sym is ∙ g) (sym (not-picked (fresh ts low high c) _ _ h))
+
+  pub named : {c r o : ℕ} → y ≡ Named c r → o ≡ p - rec → All (fresh ts low high c) → Known c o r ≡ newTag s rec p q e low high ts
+  unfolding newTag
+  named {c} g i h = rw (sym is ∙ g, i) (sym (picked (fresh ts low high c) _ _ h))
+
+-- a number that refers to a tag
+module _ (v p q low high : ℕ) (ts : List ℕ) where
+  pub too-low : v ≤ 2147483650 → Wrong 22 p ≡ oldTag v p q low high ts
+  unfolding oldTag
+  too-low h = rw (le-leb v 2147483650 h)
+
+  module _ (o : ℕ) (l : 2147483650 < v) (i : o ≡ v - 2147483650) {y : First} (is : y ≡ firstIn ts o) where
+    found : oldTag v p q low high ts ≡ onOffset y o p q low high
+    unfolding oldTag
+    found = rw (lt-leb v 2147483650 l, ← i, ← is)
+
+    pub no-tag : y ≡ Nowhere → Wrong 22 p ≡ oldTag v p q low high ts
+    no-tag g = rw (found, g)
+
+    pub misplaced : {c : ℕ} → y ≡ At c → (All (allowed low high c) → ⊥) → Wrong 22 p ≡ oldTag v p q low high ts
+    misplaced {c} g h = rw (found, g) (sym (not-picked (allowed low high c) _ _ h))
+
+    pub referred : {c : ℕ} → y ≡ At c → All (allowed low high c) → Known c o q ≡ oldTag v p q low high ts
+    referred {c} g h = rw (found, g) (sym (picked (allowed low high c) _ _ h))
+
+-- a tag, and an object's head
+module _ (s : List ℕ) (rec p e low high : ℕ) (ts : List ℕ) {y : Step} (is : y ≡ fieldAt 4 p e) where
+  pub tag-cut : {c r : ℕ} → y ≡ step.Wrong c r → Wrong c r ≡ tagAt s rec p e low high ts
+  unfolding tagAt andThen
+  tag-cut g = rw (sym is ∙ g)
+
+  pub tag-new : {q : ℕ} → y ≡ step.Next q → {v : ℕ} {x : Tag} → v ≡ numAt 4 s p → v ≡ 4294967295 → x ≡ newTag s rec p q e low high ts
+      → x ≡ tagAt s rec p e low high ts
+  unfolding tagAt andThen
+  tag-new g {v} i j h = rw (sym is ∙ g, ← i, eq-eqb v 4294967295 j) h
+
+  pub tag-old : {q : ℕ} → y ≡ step.Next q → {v : ℕ} {x : Tag} → v ≡ numAt 4 s p → (v ≡ 4294967295 → ⊥) → x ≡ oldTag v p q low high ts
+      → x ≡ tagAt s rec p e low high ts
+  unfolding tagAt andThen
+  tag-old g {v} i j h = rw (sym is ∙ g, ← i, ne-eqb v 4294967295 j) h
+
+module _ (s : List ℕ) (rec p e low high : ℕ) (ts : List ℕ) {y : Count} (is : y ≡ countAt s p e) where
+  pub head-bad : y ≡ Bad → head.Wrong 21 p ≡ headAt s rec p e low high ts
+  unfolding headAt counted
+  head-bad g = rw (sym is ∙ g)
+
+  pub head-cut : {q f : ℕ} → y ≡ Open q f → {x : Tag} {c r : ℕ} → x ≡ tagAt s rec q f low high ts → x ≡ Wrong c r
+      → head.Wrong c r ≡ headAt s rec p e low high ts
+  unfolding headAt counted
+  head-cut g d i = rw (sym is ∙ g, sym d ∙ i)
+
+  pub head-is : {q f : ℕ} → y ≡ Open q f → {x : Tag} {c o r : ℕ} → x ≡ tagAt s rec q f low high ts → x ≡ Known c o r
+      → _≡_ {A = Head} (head.Known (record { class = c; offset = o; next = r; close = f })) (headAt s rec p e low high ts)
+  unfolding headAt counted
+  head-is g d i = rw (sym is ∙ g, sym d ∙ i)
+
+-- the class of a tag is at most high
+abbrev High : ℕ → Tag → Type 0
+High high (Known c o r) = c ≤ high
+High high (Wrong c p) = Unit
+
+picked-high : (high : ℕ) (cs : List Check) (a : Tag) (p : ℕ) → (All cs → High high a) → High high (pick (all cs) a (Wrong 22 p))
+picked-high high cs a p h =
+    ⊎-elim (λ (f : All cs). rw (yes-all cs f) (h f)) (λ (f : All cs → ⊥). rw (not-all cs f) tt) (all-or cs)
+
+new-high : (s : List ℕ) (rec p q e low high : ℕ) (ts : List ℕ) → High high (newTag s rec p q e low high ts)
+unfolding newTag
+new-high s rec p q e low high ts = go (classNameAt s q e)
+  where
+    go : (x : Class) → High high (onName x rec p low high ts)
+    go Cut = tt
+    go (Named c r) = picked-high high (fresh ts low high c) (Known c (p - rec) r) p (λ h. h .1 .0)
+
+old-high : (v p q low high : ℕ) (ts : List ℕ) → High high (oldTag v p q low high ts)
+unfolding oldTag
+old-high v p q low high ts = go (leb v 2147483650)
+  where
+    at : (x : First) → High high (onOffset x (v - 2147483650) p q low high)
+    at Nowhere = tt
+    at (At c) = picked-high high (allowed low high c) (Known c (v - 2147483650) q) p (λ h. h .1 .0)
+
+    go : (b : Bool) → High high (pick b (Wrong 22 p) (onOffset (firstIn ts (v - 2147483650)) (v - 2147483650) p q low high))
+    go true = tt
+    go false = at (firstIn ts (v - 2147483650))
+
+tag-high : (s : List ℕ) (rec p e low high : ℕ) (ts : List ℕ) → High high (tagAt s rec p e low high ts)
+unfolding tagAt
+tag-high s rec p e low high ts =
+    each-step _ _ (High high) (λ c r. tt) (fieldAt 4 p e) (λ q i. by q (eqb (numAt 4 s p) 4294967295))
+  where
+    by : (q : ℕ) (b : Bool) → High high (pick b (newTag s rec p q e low high ts) (oldTag (numAt 4 s p) p q low high ts))
+    by q true = new-high s rec p q e low high ts
+    by q false = old-high (numAt 4 s p) p q low high ts
+
+-- an object's class is at most high, and its end is at or before the innermost open end
+abbrev Bounded : ℕ → ℕ → Head → Type 0
+Bounded high e (head.Known h) = (h .class ≤ high) × (h .close ≤ e)
+Bounded high e (head.Wrong c p) = Unit
+
+bounded : (s : List ℕ) (rec p e low high : ℕ) (ts : List ℕ) → Bounded high e (headAt s rec p e low high ts)
+unfolding headAt
+bounded s rec p e low high ts =
+    each-count _ _ _ (Bounded high e) tt (countAt s p e) (λ q f i.
+    on f (from-open s p e refl i .2) (tagAt s rec q f low high ts) (tag-high s rec q f low high ts))
+  where
+    on : (f : ℕ) → f ≤ e → (x : Tag) → High high x → Bounded high e (onTag x f)
+    on f l (Known c o r) h = (h, l)
+    on f l (Wrong c r) h = tt
+
+pub head-bounds : (s : List ℕ) (rec p e low high : ℕ) (ts : List ℕ) {y : Head} {h : Start} → y ≡ headAt s rec p e low high ts
+    → y ≡ head.Known h → (h .class ≤ high) × (h .close ≤ e)
+head-bounds s rec p e low high ts d g = rw (sym d ∙ g) at (bounded s rec p e low high ts)
+
+-- an object's head was read, or not
+module _ {A : Type 0} (w : ℕ → ℕ → A) (f : Start → A) where
+  pub go-head : {x y : Head} {n : Start} {r : A} → y ≡ x → y ≡ head.Known n → r ≡ f n → r ≡ headed w x f
+  unfolding headed
+  go-head e g h = rw (sym e ∙ g) h
+
+  pub halt-head : {x y : Head} {c p : ℕ} → y ≡ x → y ≡ head.Wrong c p → w c p ≡ headed w x f
+  unfolding headed
+  halt-head e g = rw (sym e ∙ g)

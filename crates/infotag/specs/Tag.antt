@@ -1,0 +1,109 @@
+-- Class tags: document 01, "A new class tag is 0xffffffff and a name ended by zero, once per class and record".
+use Prim.Native.Nat.{ℕ, zero, suc, _+_, _-_}
+use mathlib.Core.List.{List, [], _∷_}
+use lib.ListN.{getD, take, drop}
+use lib.Dec.{leb, eqb}
+use Rattle.wire.specs.Check.{Check, le, eq, all, pick}
+use Rattle.wire.specs.Equal.{eqBytes}
+use Rattle.wire.specs.Number.{numAt}
+use Rattle.infofield.specs.Field.{andThen, fieldAt, countAt, counted}
+use Rattle.infotag.specs.declared.tag.First.{First}
+use Rattle.infotag.specs.declared.tag.First.the-variants.{At, Nowhere}
+use Rattle.infotag.specs.declared.tag.Class.{Class}
+use Rattle.infotag.specs.declared.tag.Class.the-variants.{Named, Cut}
+use Rattle.infotag.specs.declared.tag.Tag.{Tag}
+use Rattle.infotag.specs.declared.tag.Tag.the-variants.{Known, Wrong}
+use Rattle.infotag.specs.declared.tag.Start.{Start}
+use Rattle.infotag.specs.declared.tag.Head.{Head}
+use Rattle.infotag.specs.declared.tag.Head.the-variants as head
+
+-- the bytes from q on and before e
+abbrev pub between : List ℕ → ℕ → ℕ → List ℕ
+between s q e = take (e - q) (drop q s)
+
+-- the first place of a list that holds a value
+abbrev pub later : First → First
+later (At i) = At (suc i)
+later Nowhere = Nowhere
+
+unfoldable pub firstIn : List ℕ → ℕ → First
+firstIn [] v = Nowhere
+firstIn (x ∷ xs) v = pick (eqb x v) (At 0) (later (firstIn xs v))
+
+-- the twelve classes, in the order of their numbers: 0 TStreamerInfo, 1 TObjArray, then 002's list, of kinds 1 to 10:
+-- TStreamerBase, TStreamerBasicType, TStreamerString, TStreamerBasicPointer, TStreamerObject, TStreamerObjectPointer,
+-- TStreamerLoop, TStreamerObjectAny, TStreamerSTL, TStreamerSTLString
+abbrev pub classNames : List (List ℕ)
+classNames =
+    (84 ∷ 83 ∷ 116 ∷ 114 ∷ 101 ∷ 97 ∷ 109 ∷ 101 ∷ 114 ∷ 73 ∷ 110 ∷ 102 ∷ 111 ∷ [])
+    ∷ (84 ∷ 79 ∷ 98 ∷ 106 ∷ 65 ∷ 114 ∷ 114 ∷ 97 ∷ 121 ∷ [])
+    ∷ (84 ∷ 83 ∷ 116 ∷ 114 ∷ 101 ∷ 97 ∷ 109 ∷ 101 ∷ 114 ∷ 66 ∷ 97 ∷ 115 ∷ 101 ∷ [])
+    ∷ (84 ∷ 83 ∷ 116 ∷ 114 ∷ 101 ∷ 97 ∷ 109 ∷ 101 ∷ 114 ∷ 66 ∷ 97 ∷ 115 ∷ 105 ∷ 99 ∷ 84 ∷ 121 ∷ 112 ∷ 101 ∷ [])
+    ∷ (84 ∷ 83 ∷ 116 ∷ 114 ∷ 101 ∷ 97 ∷ 109 ∷ 101 ∷ 114 ∷ 83 ∷ 116 ∷ 114 ∷ 105 ∷ 110 ∷ 103 ∷ [])
+    ∷ (84 ∷ 83 ∷ 116 ∷ 114 ∷ 101 ∷ 97 ∷ 109 ∷ 101 ∷ 114 ∷ 66 ∷ 97 ∷ 115 ∷ 105 ∷ 99 ∷ 80 ∷ 111 ∷ 105 ∷ 110 ∷ 116 ∷ 101 ∷ 114 ∷ [])
+    ∷ (84 ∷ 83 ∷ 116 ∷ 114 ∷ 101 ∷ 97 ∷ 109 ∷ 101 ∷ 114 ∷ 79 ∷ 98 ∷ 106 ∷ 101 ∷ 99 ∷ 116 ∷ [])
+    ∷ (84 ∷ 83 ∷ 116 ∷ 114 ∷ 101 ∷ 97 ∷ 109 ∷ 101 ∷ 114 ∷ 79 ∷ 98 ∷ 106 ∷ 101 ∷ 99 ∷ 116 ∷ 80 ∷ 111 ∷ 105 ∷ 110 ∷ 116 ∷ 101 ∷ 114 ∷ [])
+    ∷ (84 ∷ 83 ∷ 116 ∷ 114 ∷ 101 ∷ 97 ∷ 109 ∷ 101 ∷ 114 ∷ 76 ∷ 111 ∷ 111 ∷ 112 ∷ [])
+    ∷ (84 ∷ 83 ∷ 116 ∷ 114 ∷ 101 ∷ 97 ∷ 109 ∷ 101 ∷ 114 ∷ 79 ∷ 98 ∷ 106 ∷ 101 ∷ 99 ∷ 116 ∷ 65 ∷ 110 ∷ 121 ∷ [])
+    ∷ (84 ∷ 83 ∷ 116 ∷ 114 ∷ 101 ∷ 97 ∷ 109 ∷ 101 ∷ 114 ∷ 83 ∷ 84 ∷ 76 ∷ [])
+    ∷ (84 ∷ 83 ∷ 116 ∷ 114 ∷ 101 ∷ 97 ∷ 109 ∷ 101 ∷ 114 ∷ 83 ∷ 84 ∷ 76 ∷ 83 ∷ 116 ∷ 114 ∷ 105 ∷ 110 ∷ 103 ∷ [])
+    ∷ []
+
+-- the number of the class that a byte string names; an unknown name gets the number after the last
+unfoldable pub classIn : List (List ℕ) → List ℕ → ℕ
+classIn [] s = 0
+classIn (n ∷ ns) s = pick (eqBytes s n) 0 (suc (classIn ns s))
+
+unfoldable pub classOf : List ℕ → ℕ
+classOf s = classIn classNames s
+
+-- "an unknown, repeated or misplaced class is 22": the class c of a tag at p is one of low to high
+abbrev pub allowed : ℕ → ℕ → ℕ → List Check
+allowed low high c = le low c ∷ le c high ∷ []
+
+-- the tags are the offsets in the record of each class's new tag, 0 where there was none yet
+abbrev pub fresh : List ℕ → ℕ → ℕ → ℕ → List Check
+fresh ts low high c = le low c ∷ le c high ∷ eq (getD ts c 0) 0 ∷ []
+
+-- "a name ended by zero", from q on: the class that it names and the place after the zero, which stands before the innermost open end e
+abbrev pub onZero : First → List ℕ → ℕ → Class
+onZero (At n) s q = Named (classOf (take n (drop q s))) (q + n + 1)
+onZero Nowhere s q = Cut
+
+unfoldable pub classNameAt : List ℕ → ℕ → ℕ → Class
+classNameAt s q e = onZero (firstIn (between s q e) 0) s q
+
+-- a new tag at p, its name from q on; a name that is cut is 21
+abbrev pub onName : Class → ℕ → ℕ → ℕ → ℕ → List ℕ → Tag
+onName (Named c r) rec p low high ts = pick (all (fresh ts low high c)) (Known c (p - rec) r) (Wrong 22 p)
+onName Cut rec p low high ts = Wrong 21 p
+
+unfoldable pub newTag : List ℕ → ℕ → ℕ → ℕ → ℕ → ℕ → ℕ → List ℕ → Tag
+newTag s rec p q e low high ts = onName (classNameAt s q e) rec p low high ts
+
+-- "a back-reference is bit 31 plus the offset of that tag from the record's start plus 2": the number v at p refers to a tag
+abbrev pub onOffset : First → ℕ → ℕ → ℕ → ℕ → ℕ → Tag
+onOffset (At c) o p q low high = pick (all (allowed low high c)) (Known c o q) (Wrong 22 p)
+onOffset Nowhere o p q low high = Wrong 22 p
+
+unfoldable pub oldTag : ℕ → ℕ → ℕ → ℕ → ℕ → List ℕ → Tag
+oldTag v p q low high ts =
+    pick (leb v 2147483650) (Wrong 22 p) (onOffset (firstIn ts (v - 2147483650)) (v - 2147483650) p q low high)
+
+-- "a new class tag is 0xffffffff and a name ended by zero"
+unfoldable pub tagAt : List ℕ → ℕ → ℕ → ℕ → ℕ → ℕ → List ℕ → Tag
+tagAt s rec p e low high ts =
+    andThen Wrong (fieldAt 4 p e) (λ q.
+    pick (eqb (numAt 4 s p) 4294967295) (newTag s rec p q e low high ts) (oldTag (numAt 4 s p) p q low high ts))
+
+-- an object's ByteCount and tag: the class, its tag's offset, the place after the tag, and the object's end
+abbrev pub onTag : Tag → ℕ → Head
+onTag (Known c o q) f = head.Known (record { class = c; offset = o; next = q; close = f })
+onTag (Wrong c p) f = head.Wrong c p
+
+unfoldable pub headAt : List ℕ → ℕ → ℕ → ℕ → ℕ → ℕ → List ℕ → Head
+headAt s rec p e low high ts = counted head.Wrong (countAt s p e) p (λ q f. onTag (tagAt s rec q f low high ts) f)
+
+unfoldable pub headed : {A : Type 0} → (ℕ → ℕ → A) → Head → (Start → A) → A
+headed w (head.Known h) body = body h
+headed w (head.Wrong c p) body = w c p
