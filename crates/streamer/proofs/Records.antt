@@ -10,21 +10,21 @@ use denote.Enum.Declared.{tagOf}
 use types.Run.{OneOf}
 use lib.ListN.{length}
 use lib.Dec.{eqb}
-use Rattle.wire.specs.Check.{pick}
+use Rattle.wire.specs.Check.{all, pick}
 use Rattle.wire.proofs.Checks.{yes-all, not-all}
-use Rattle.key.specs.Header.{keyAt, unpackedData}
+use Rattle.key.specs.Header.{unpackedData}
 use Rattle.key.specs.Piece.{pieceAt}
 use Rattle.key.specs.declared.header.Key.{Key}
 use Rattle.key.specs.declared.piece.Piece.{Piece}
 use Rattle.key.specs.declared.piece.Piece.the-variants.{Record, Gap, Refused}
-use Rattle.key.proofs.Pieces.{Recorded, from-record}
+use Rattle.key.proofs.Pieces.{from-record}
 use Rattle.key.proofs.piece.Piece.{the-type}
 use Rattle.infofield.specs.Field.{countAt}
 use Rattle.infofield.specs.declared.field.Count.{Count}
 use Rattle.infofield.specs.declared.field.Count.the-variants.{Open, Bad}
 use Rattle.streamer.specs.Row.{stop}
 use Rattle.streamer.specs.Runs.{Ended, noRecord}
-use Rattle.streamer.specs.InfoKey.{isInfo}
+use Rattle.record.specs.Name.{isInfo}
 use Rattle.streamer.specs.Info.{sized, filling, wholeAt, listAt, recordAt, onPiece, infoAt}
 use Rattle.streamer.specs.declared.info.Size.{Size}
 use Rattle.streamer.specs.declared.info.Collection.{Collection}
@@ -70,23 +70,15 @@ from-whole s p e {y} {q} {f} d g = go (countAt s p e) (sym g ∙ d)
 
 -- what is known of a record that was read
 pub record Found (s : List ℕ) (p : ℕ) (k : Key) : Type 0 where
-  pub is : k ≡ keyAt s p
   pub small : k .nbytes ≤ 2147483647
   pub key : k .keylen ≤ k .nbytes
   pub fits : p + k .nbytes ≤ length s
-  pub strings : k .title .next ≤ length s
 
 pub found : (s : List ℕ) (p : ℕ) {y : Piece} {k : Key} → y ≡ pieceAt s p → y ≡ Record k → Found s p k
-found s p d g = go (from-record s p (sym d ∙ g))
-  where
-    go : {k : Key} → Recorded s p k → Found s p k
-    go r = record {
-      is = r .is;
-      small = rw (r .is) (omega (arith, r .fits));
-      key = rw (r .is) (omega (arith, r .fits));
-      fits = omega (arith, r .sized-there, r .size);
-      strings = rw (r .is) (omega (arith, r .sized-there, r .fits));
-    }
+found s p d g =
+    let h = from-record s p (sym d ∙ g) in
+    let f = h .header .fits in
+    record { small = omega arith; key = omega arith; fits = omega (arith, h .size, h .sized-there) }
 
 -- a test that was turned round
 pub turned : (b : Bool) → not b ≡ true → b ≡ false
@@ -103,16 +95,16 @@ module _ (s : List ℕ) (p : ℕ) {y : Piece} (is : y ≡ pieceAt s p) where
   unfolding infoAt
   here g = rw (sym is ∙ g)
 
-  pub other-key : {k : Key} → y ≡ Record k → {b : Bool} → b ≡ isInfo s k → b ≡ false → stop 20 p ≡ infoAt s p
+  pub other-key : {k : Key} → y ≡ Record k → {b : Bool} → b ≡ all (isInfo s k) → b ≡ false → stop 20 p ≡ infoAt s p
   unfolding recordAt
   other-key {k} g d i = sym (rw (sym d ∙ i)) ∙ here g
 
-  pub packed : {k : Key} → y ≡ Record k → {b : Bool} → b ≡ isInfo s k → b ≡ true → (k .objlen + k .keylen ≡ k .nbytes → ⊥)
+  pub packed : {k : Key} → y ≡ Record k → {b : Bool} → b ≡ all (isInfo s k) → b ≡ true → (k .objlen + k .keylen ≡ k .nbytes → ⊥)
       → stop 19 p ≡ infoAt s p
   unfolding recordAt
   packed {k} g d i h = sym (rw (sym d ∙ i, not-all (unpackedData k) (λ f. h (f .0)))) ∙ here g
 
-  pub unpacked : {k : Key} → y ≡ Record k → {b : Bool} → b ≡ isInfo s k → b ≡ true → k .objlen + k .keylen ≡ k .nbytes
+  pub unpacked : {k : Key} → y ≡ Record k → {b : Bool} → b ≡ all (isInfo s k) → b ≡ true → k .objlen + k .keylen ≡ k .nbytes
       → listAt s p (p + k .keylen) (p + k .nbytes) ≡ infoAt s p
   unfolding recordAt
   unpacked {k} g d i h = sym (rw (sym d ∙ i, yes-all (unpackedData k) (h, tt))) ∙ here g

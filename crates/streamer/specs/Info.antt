@@ -8,6 +8,7 @@ use Rattle.wire.specs.Check.{all, pick}
 use Rattle.wire.specs.Number.{numAt}
 use Rattle.wire.specs.declared.Answer.{Answer}
 use Rattle.table.specs.Table.{filled}
+use Rattle.record.specs.Name.{isInfo}
 use Rattle.key.specs.Header.{unpackedData}
 use Rattle.key.specs.Piece.{pieceAt}
 use Rattle.key.specs.declared.header.Key.{Key}
@@ -19,7 +20,6 @@ use Rattle.infofield.specs.declared.field.Count.the-variants.{Open, Bad}
 use Rattle.infotag.specs.Tag.{headAt, headed}
 use Rattle.infoelement.specs.Element.{namedAt, withName}
 use Rattle.streamer.specs.Row.{flat, Run, going, stop, times, ends, elementAt}
-use Rattle.streamer.specs.InfoKey.{isInfo}
 use Rattle.streamer.specs.declared.row.Row.{Row}
 use Rattle.streamer.specs.declared.row.Owner.{Owner}
 use Rattle.streamer.specs.declared.info.Size.{Size}
@@ -88,7 +88,7 @@ listAt s rec p e =
 -- "5 or 6 as for a piece, a gap gives 20; then 20 unless plain, TList, StreamerInfo; then 19"
 unfoldable pub recordAt : List ℕ → ℕ → Key → Run
 recordAt s p k =
-    pick (isInfo s k)
+    pick (all (isInfo s k))
     (pick (all (unpackedData k)) (listAt s p (p + k .keylen) (p + k .nbytes)) (stop 19 p))
     (stop 20 p)
 

@@ -1,4 +1,3 @@
 pub mod Row
 pub mod Runs
-pub mod InfoKey
 pub mod Info

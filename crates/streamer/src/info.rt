@@ -6,7 +6,6 @@ ghost use Rattle.streamer.specs.Row.{times, elementAt};
 ghost use Rattle.streamer.specs.Info.{collectionAt, arrayBody, arrayAt, classBody, classAt, ownerOf};
 ghost use Rattle.streamer.specs.Info.{wholeAt, listAt, infoAt};
 ghost use Rattle.streamer.specs.Runs.{Within, Runs, Ran, Ended, closedRows, noRecord};
-use crate::info_key::is_info;
 use crate::row::Owner;
 use crate::row::Rows;
 use crate::row::Span;
@@ -28,6 +27,7 @@ use infotag::tag::Head;
 use infotag::tag::read_head;
 use key::piece::Piece;
 use key::piece::read_piece;
+use record::is_info_key;
 use wire::number::be32;
 
 // How many objects a list or an array holds, and the place after that number.
@@ -332,7 +332,7 @@ pub(crate) fn read_record(file: &[u8], at: usize, table: &mut [u32]) -> Rows
     let Piece::Record(k) = piece else {
         return no_record(piece, at);
     };
-    if !is_info(file, at, k) {
+    if !is_info_key(file, k) {
         return Rows::Wrong(20, at);
     }
     let objlen = k.objlen;

@@ -1,7 +1,6 @@
 // The StreamerInfo record of a ROOT file: the reader of an unpacked record, a row for every element.
 // Every public function takes any input and has no precondition.
 mod info;
-mod info_key;
 mod row;
 
 ghost use mathlib.Core.Path.{_≡_};

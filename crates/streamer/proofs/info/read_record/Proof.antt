@@ -15,34 +15,34 @@ no-record-requires : tie.Need-no-record-requires
 no-record-requires c κs = search needs
 
 returns : tie.Need-returns
-returns c = rw (c .no-record .ensures) (no-record _ _ (c .before .before .read-piece .ensures .0) _ _ (c .before .match .keys2))
+returns c = rw (c .no-record .ensures) (no-record _ _ (c .before .before .read-piece .ensures .piece) _ _ (c .before .match .keys2))
 
-is-info-requires : tie.Need-is-info-requires
-is-info-requires c κs = let f = found _ _ (c .before .before .before .read-piece .ensures .0) (c .before .piece .given .1) in (f .is, f .strings)
+is-info-key-requires : tie.Need-is-info-key-requires
+is-info-key-requires c κs = search needs
 
 returns-2 : tie.Need-returns-2
 returns-2 c =
-    ended-stop _ _ (other-key _ _ (c .before .before .before .before .before .read-piece .ensures .0) (c .before .before .before .piece .given .1) (c
-    .before .is-info .ensures) (turned _ (c .if1 .taken)))
+    ended-stop _ _ (other-key _ _ (c .before .before .before .before .before .read-piece .ensures .piece) (c .before .before .before .piece .given .1) (c
+    .before .is-info-key .ensures) (turned _ (c .if1 .taken)))
 
 sub-if2 : tie.Need-sub-if2
 sub-if2 c =
-    let f = found _ _ (c .before .before .before .before .before .read-piece .ensures .0) (c .before .before .before .piece .given .1) in
+    let f = found _ _ (c .before .before .before .before .before .read-piece .ensures .piece) (c .before .before .before .piece .given .1) in
     omega (arith, f .small, f .key, f .fits)
 
 returns-3 : tie.Need-returns-3
 returns-3 c =
-    let f = found _ _ (c .before .before .before .before .before .before .read-piece .ensures .0) (c .before .before .before .before .piece .given
+    let f = found _ _ (c .before .before .before .before .before .before .read-piece .ensures .piece) (c .before .before .before .before .piece .given
     .1) in
-    ended-stop _ _ (packed _ _ (c .before .before .before .before .before .before .read-piece .ensures .0) (c .before .before .before .before .piece
-    .given .1) (c .before .before .is-info .ensures) (turned-not _ (c .before .if1 .left)) (λ h. omega (arith, f .key, h)))
+    ended-stop _ _ (packed _ _ (c .before .before .before .before .before .before .read-piece .ensures .piece) (c .before .before .before .before .piece
+    .given .1) (c .before .before .is-info-key .ensures) (turned-not _ (c .before .if1 .left)) (λ h. omega (arith, f .key, h)))
 
 cast-list : tie.Need-cast-list
 cast-list c = search needs
 
 add-list : tie.Need-add-list
 add-list c =
-    let f = found _ _ (c .before .before .before .before .before .before .read-piece .ensures .0) (c .before .before .before .before .piece .given
+    let f = found _ _ (c .before .before .before .before .before .before .read-piece .ensures .piece) (c .before .before .before .before .piece .given
     .1) in
     omega (arith, f .small, f .key, f .fits)
 
@@ -51,13 +51,13 @@ cast-list-2 c = search needs
 
 add-list-2 : tie.Need-add-list-2
 add-list-2 c =
-    let f = found _ _ (c .before .before .before .before .before .before .read-piece .ensures .0) (c .before .before .before .before .piece .given
+    let f = found _ _ (c .before .before .before .before .before .before .read-piece .ensures .piece) (c .before .before .before .before .piece .given
     .1) in
     omega (arith, f .small, f .key, f .fits)
 
 list-requires : tie.Need-list-requires
 list-requires c κs =
-    let f = found _ _ (c .before .before .before .before .before .before .before .read-piece .ensures .0) (c .before .before .before .before .before
+    let f = found _ _ (c .before .before .before .before .before .before .before .read-piece .ensures .piece) (c .before .before .before .before .before
     .piece .given .1) in
     omega (arith, f .small, f .key, f .fits)
 
@@ -66,10 +66,10 @@ same-length c = search needs
 
 returns-4 : tie.Need-returns-4
 returns-4 c =
-    let f = found _ _ (c .before .before .before .before .before .before .before .before .before .before .read-piece .ensures .0) (c .before .before
+    let f = found _ _ (c .before .before .before .before .before .before .before .before .before .before .read-piece .ensures .piece) (c .before .before
     .before .before .before .before .before .before .piece .given .1) in
-    as-ended _ _ _ (unpacked _ _ (c .before .before .before .before .before .before .before .before .before .before .read-piece .ensures .0) (c
-    .before .before .before .before .before .before .before .before .piece .given .1) (c .before .before .before .before .before .before .is-info
+    as-ended _ _ _ (unpacked _ _ (c .before .before .before .before .before .before .before .before .before .before .read-piece .ensures .piece) (c
+    .before .before .before .before .before .before .before .before .piece .given .1) (c .before .before .before .before .before .before .is-info-key
     .ensures) (turned-not _ (c .before .before .before .before .before .if1 .left)) (omega (arith, f .key))) (c .before .before .list .ensures)
 
 pub read-record-spec : {M : Type 1} → statement M
@@ -80,7 +80,7 @@ read-record-spec =
     enum-known-piece
     no-record-requires
     returns
-    is-info-requires
+    is-info-key-requires
     returns-2
     sub-if2
     returns-3
