@@ -31,16 +31,13 @@ dirFrom v = record {
   seekkeys = getD v 7 0;
 }
 
--- the numbers of the header at p, and what is kept of them
-abbrev pub dirValues : List ℕ → ℕ → List ℕ
-dirValues s p = valuesAt (dirLayout offsetWidth) s p
-
 unfoldable pub dirAt : List ℕ → ℕ → DirHead
-dirAt s p = dirFrom (dirValues s p)
+dirAt s p = dirFrom (valuesAt (dirLayout offsetWidth) s p)
 
 -- all of it inside its record, Version at most 1000
 abbrev pub dirFits : List ℕ → ℕ → ℕ → List Check
-dirFits s p end = le end (length s) ∷ le (p + extent (dirLayout offsetWidth)) end ∷ le (getD (dirValues s p) 0 0) 1000 ∷ []
+dirFits s p end =
+    le end (length s) ∷ le (p + extent (dirLayout offsetWidth)) end ∷ le (getD (valuesAt (dirLayout offsetWidth) s p) 0 0) 1000 ∷ []
 
 unfoldable pub dirIn : List ℕ → ℕ → ℕ → Dir
 dirIn s p end = pick (all (dirFits s p end)) (Held (dirAt s p)) Bad
