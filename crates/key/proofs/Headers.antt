@@ -5,7 +5,7 @@ use mathlib.Core.List.{List}
 use mathlib.Core.Path.{_≡_, refl, sym, ap, _∙_}
 use native.Mathlib.Omega.{arith}
 use lib.ListN.{length}
-use Rattle.wire.specs.Check.{All, all, pick}
+use Rattle.wire.specs.Check.{All, pick}
 use Rattle.wire.specs.Layout.{offsetWidth, valuesAt}
 use Rattle.wire.specs.Number.{numAt, signedOf}
 use Rattle.key.specs.Header.{keyLayout, fixedPart, keyFrom, keyAt, namesIn, sumOf, limits, inLimits, wellFormed, formed, onNames, headerIn}
@@ -13,7 +13,6 @@ use Rattle.key.specs.declared.header.Key.{Key}
 use Rattle.key.specs.declared.header.Names.{Names}
 use Rattle.key.specs.declared.header.Named.{Named}
 use Rattle.key.specs.declared.header.Named.the-variants.{Held, Cut}
-use Rattle.key.specs.declared.header.Header.{Header}
 use Rattle.key.specs.declared.header.Header.the-variants.{Good, Bad}
 use Rattle.wire.proofs.Checks.{yes-all, all-yes, not-all, from-picked, false-true}
 use Rattle.wire.proofs.Texts.{Stands, stands, none-left}

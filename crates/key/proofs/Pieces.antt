@@ -7,7 +7,7 @@ use mathlib.Core.Path.{_≡_, refl, sym, ap, _∙_}
 use native.Mathlib.Omega.{arith}
 use borrow.Author.Tests.{lt-ltb, le-ltb, eq-eqb, ne-eqb, eqb-true}
 use lib.Dec.{eqb}
-use Rattle.wire.specs.Check.{all, All, pick}
+use Rattle.wire.specs.Check.{All, pick}
 use Rattle.wire.specs.Number.{numAt, signedOf}
 use Rattle.key.specs.Header.{headerIn}
 use Rattle.key.specs.declared.header.Header.{Header}

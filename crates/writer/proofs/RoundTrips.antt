@@ -21,7 +21,7 @@ use Rattle.wire.proofs.Checks.{all-yes}
 use Rattle.wire.proofs.Layouts.{length-values, read-written}
 use Rattle.wire.proofs.Patches.{length-patch, drop-patch}
 use Rattle.wire.proofs.Texts.{text-there}
-use Rattle.key.specs.Header.{keyLayout, fixedPart, keyFrom, wellFormed, keyAt}
+use Rattle.key.specs.Header.{keyLayout, fixedPart, keyFrom, keyAt}
 use Rattle.key.specs.Piece.{sized, pieceAt}
 use Rattle.key.specs.declared.header.Names.{Names}
 use Rattle.key.specs.declared.piece.Piece.the-variants.{Record}

@@ -17,7 +17,7 @@ use Rattle.wire.specs.Text.{textSize, textOf, contentOf}
 use Rattle.wire.proofs.Checks.{below-or}
 use Rattle.wire.proofs.Layouts.{write-read, values-fit}
 use Rattle.wire.proofs.Numbers.{Bytes}
-use Rattle.wire.proofs.Texts.{Stands, read-length, read-again}
+use Rattle.wire.proofs.Texts.{read-length, read-again}
 use Rattle.key.specs.Header.{keyLayout, fixedPart, keyAt, sumOf}
 use Rattle.key.specs.Piece.{sizeAt, pieceAt}
 use Rattle.key.specs.declared.header.Key.{Key}
@@ -25,7 +25,7 @@ use Rattle.key.specs.declared.header.Names.{Names}
 use Rattle.key.specs.declared.piece.Piece.the-variants.{Record}
 use Rattle.key.proofs.Headers.{Strings, namesOf}
 use Rattle.key.proofs.Pieces.{Recorded, from-record}
-use Rattle.writer.specs.Writer.{nameBytes, sumBytes, numbersOf, headerBytes, keyOf, fieldsOf, namesShort, keyFits, writeAnswer, writeBuffer}
+use Rattle.writer.specs.Writer.{nameBytes, sumBytes, numbersOf, headerBytes, keyOf, fieldsOf, keyFits, writeAnswer, writeBuffer}
 use Rattle.writer.proofs.Writes.{Accepted, answer-is, buffer-is}
 
 -- two stretches of a file, one after the other

@@ -1,6 +1,6 @@
 -- The key writer: its answer and its buffer, from facts.
-use Prim.Native.Nat.{ℕ, _+_, _-_, _≤_, _<_}
-use mathlib.Core.List.{List, _++_}
+use Prim.Native.Nat.{ℕ, _+_, _≤_, _<_}
+use mathlib.Core.List.{List}
 use mathlib.Core.Path.{_≡_, refl, sym, _∙_}
 use native.Mathlib.Omega.{arith}
 use borrow.Author.Tests.{le-leb, lt-leb, lt-ltb, ltb-true, ne-eqb}
@@ -20,7 +20,7 @@ use Rattle.wire.specs.declared.number.Bits.the-variants as bits
 use Rattle.wire.proofs.Checks.{yes-all, not-all}
 use Rattle.wire.proofs.Layouts.{length-values}
 use Rattle.wire.proofs.Texts.{length-text}
-use Rattle.key.specs.Header.{keyLayout, fixedPart, limits}
+use Rattle.key.specs.Header.{keyLayout, limits}
 use Rattle.writer.specs.Writer.{nameBytes, sumBytes, numbersOf, headerBytes, keyOf, namesShort, keyFits, writeAnswer, writeBuffer}
 use Rattle.writer.specs.declared.Fields.{Fields}
 
