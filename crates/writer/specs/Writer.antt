@@ -3,9 +3,9 @@ use Prim.Native.Nat.{ℕ, _+_, _^_}
 use mathlib.Core.List.{List, [], _∷_, _++_}
 use lib.ListN.{length}
 use lib.Signed.{mag}
-use lib.Dec.{leb, eqb}
+use lib.Dec.{eqb}
 use Rattle.wire.specs.Answer.{done, refusal}
-use Rattle.wire.specs.Check.{Check, lt, all, pick}
+use Rattle.wire.specs.Check.{Check, le, lt, all, pick}
 use Rattle.wire.specs.Layout.{offsetWidth, valueBytes}
 use Rattle.wire.specs.Number.{bitsOf}
 use Rattle.wire.specs.Patch.{patch}
@@ -76,7 +76,7 @@ unfoldable pub writeAnswer : Fields → List ℕ → List ℕ → List ℕ → L
 writeAnswer f class name title buf =
     pick (all (namesShort class name title))
     (pick (all (keyFits f class name title))
-    (pick (leb (f .seekkey + f .nbytes) (length buf)) (done (sumBytes class name title)) (refusal 17 0))
+    (pick (all (le (f .seekkey + f .nbytes) (length buf) ∷ [])) (done (sumBytes class name title)) (refusal 17 0))
     (refusal 16 0))
     (refusal 15 0)
 

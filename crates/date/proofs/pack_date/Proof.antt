@@ -4,116 +4,85 @@ use Rattle.date.proofs.Dates.{out-of-range, taken}
 use borrow.Author.Needs.{needs}
 use Rattle.date.proofs.pack_date.Statement.{statement}
 use Rattle.date.proofs.pack_date.Tie as tie
-use Rattle.date.proofs.pack_date.Reads as reads
-use Rattle.date.proofs.pack_date.Lts as lts
-use Rattle.wire.proofs.finished.Reads as finished-reads
-use Rattle.wire.proofs.refused.Reads as refused-reads
 
--- src/lib.rt:28:9
 refused-requires : tie.Need-refused-requires
 refused-requires c κs = search needs
 
--- src/lib.rt:28:9
 returns : tie.Need-returns
 returns c = out-of-range _ (c .refused .ensures) (λ h. omega (arith, h))
 
--- src/lib.rt:31:9
 refused-requires-2 : tie.Need-refused-requires-2
 refused-requires-2 c κs = search needs
 
--- src/lib.rt:31:9
 returns-2 : tie.Need-returns-2
 returns-2 c = out-of-range _ (c .refused2 .ensures) (λ h. omega (arith, h))
 
--- src/lib.rt:34:9
 refused-requires-3 : tie.Need-refused-requires-3
 refused-requires-3 c κs = search needs
 
--- src/lib.rt:34:9
 returns-3 : tie.Need-returns-3
 returns-3 c = out-of-range _ (c .refused3 .ensures) (λ h. omega (arith, h))
 
--- src/lib.rt:37:9
 refused-requires-4 : tie.Need-refused-requires-4
 refused-requires-4 c κs = search needs
 
--- src/lib.rt:37:9
 returns-4 : tie.Need-returns-4
 returns-4 c = out-of-range _ (c .refused4 .ensures) (λ h. omega (arith, h))
 
--- src/lib.rt:40:9
 refused-requires-5 : tie.Need-refused-requires-5
 refused-requires-5 c κs = search needs
 
--- src/lib.rt:40:9
 returns-5 : tie.Need-returns-5
 returns-5 c = out-of-range _ (c .refused5 .ensures) (λ h. omega (arith, h))
 
--- src/lib.rt:43:9
 refused-requires-6 : tie.Need-refused-requires-6
 refused-requires-6 c κs = search needs
 
--- src/lib.rt:43:9
 returns-6 : tie.Need-returns-6
 returns-6 c = out-of-range _ (c .refused6 .ensures) (λ h. omega (arith, h))
 
--- src/lib.rt:46:9
 refused-requires-7 : tie.Need-refused-requires-7
 refused-requires-7 c κs = search needs
 
--- src/lib.rt:46:9
 returns-7 : tie.Need-returns-7
 returns-7 c = out-of-range _ (c .refused7 .ensures) (λ h. omega (arith, h))
 
--- src/lib.rt:48:18
 mul-packed : tie.Need-mul-packed
 mul-packed c = search needs
 
--- src/lib.rt:49:11
 mul-packed-2 : tie.Need-mul-packed-2
 mul-packed-2 c = search needs
 
--- src/lib.rt:48:18
 add-packed : tie.Need-add-packed
 add-packed c = search needs
 
--- src/lib.rt:50:11
 mul-packed-3 : tie.Need-mul-packed-3
 mul-packed-3 c = search needs
 
--- src/lib.rt:48:18
 add-packed-2 : tie.Need-add-packed-2
 add-packed-2 c = search needs
 
--- src/lib.rt:51:11
 mul-packed-4 : tie.Need-mul-packed-4
 mul-packed-4 c = search needs
 
--- src/lib.rt:48:18
 add-packed-3 : tie.Need-add-packed-3
 add-packed-3 c = search needs
 
--- src/lib.rt:52:11
 mul-packed-5 : tie.Need-mul-packed-5
 mul-packed-5 c = search needs
 
--- src/lib.rt:48:18
 add-packed-4 : tie.Need-add-packed-4
 add-packed-4 c = search needs
 
--- src/lib.rt:48:18
 add-packed-5 : tie.Need-add-packed-5
 add-packed-5 c = search needs
 
--- src/lib.rt:54:14
 cast-finished : tie.Need-cast-finished
 cast-finished c = search needs
 
--- src/lib.rt:54:5
 finished-requires : tie.Need-finished-requires
 finished-requires c κs = search needs
 
--- src/lib.rt:18:1
 returns-8 : tie.Need-returns-8
 unfolding packed
 returns-8 c = taken _ (c .finished .ensures) (omega arith)
