@@ -10,36 +10,17 @@ use Rattle.wire.specs.declared.Answer.{Answer}
 use Rattle.date.specs.declared.Date.{Date}
 use Rattle.wire.proofs.Checks.{picked, not-picked}
 
--- two dates with the same fields
-record Same (d e : Date) : Type 0 where
-  year : d .year ≡ e .year
-  month : d .month ≡ e .month
-  day : d .day ≡ e .day
-  hour : d .hour ≡ e .hour
-  minute : d .minute ≡ e .minute
-  second : d .second ≡ e .second
-
-same : {d e : Date} → Same d e → d ≡ e
-same h = λ i. record {
-  year = h .year i;
-  month = h .month i;
-  day = h .day i;
-  hour = h .hour i;
-  minute = h .minute i;
-  second = h .second i;
-}
-
 -- unpacking what was packed gives the six fields
 pub unpack-pack : (d : Date) → All (dateFits d) → unpacked (packed d) ≡ d
 unfolding packed unpacked
-unpack-pack d h = same (record {
-  year = omega arith;
-  month = omega arith;
-  day = omega arith;
-  hour = omega arith;
-  minute = omega arith;
-  second = omega arith;
-})
+unpack-pack d h =
+    let y : unpacked (packed d) .year ≡ d .year = omega arith in
+    let m : unpacked (packed d) .month ≡ d .month = omega arith in
+    let a : unpacked (packed d) .day ≡ d .day = omega arith in
+    let b : unpacked (packed d) .hour ≡ d .hour = omega arith in
+    let n : unpacked (packed d) .minute ≡ d .minute = omega arith in
+    let e : unpacked (packed d) .second ≡ d .second = omega arith in
+    λ i. record { year = y i; month = m i; day = a i; hour = b i; minute = n i; second = e i }
 
 pub out-of-range : (d : Date) {a : Answer} → a ≡ refusal 18 0 → (All (dateFits d) → ⊥) → Packs d a
 unfolding packAnswer

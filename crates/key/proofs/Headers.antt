@@ -8,12 +8,11 @@ use lib.ListN.{length}
 use Rattle.wire.specs.Check.{All, all, pick}
 use Rattle.wire.specs.Layout.{offsetWidth, valuesAt}
 use Rattle.wire.specs.Number.{numAt, signedOf}
-use Rattle.key.specs.Header.{keyLayout, fixedPart, keyFrom, keyAt, namesIn, sumOf, limits, inLimits, wellFormed, formed, onNames, headerIn}
+use Rattle.key.specs.Header.{keyLayout, fixedPart, keyFrom, keyAt, namesIn, sumOf, limits, inLimits, wellFormed, headerOf, headerIn}
 use Rattle.key.specs.declared.header.Key.{Key}
 use Rattle.key.specs.declared.header.Names.{Names}
 use Rattle.key.specs.declared.header.Named.{Named}
 use Rattle.key.specs.declared.header.Named.the-variants.{Held, Cut}
-use Rattle.key.specs.declared.header.Header.{Header}
 use Rattle.key.specs.declared.header.Header.the-variants.{Good, Bad}
 use Rattle.wire.proofs.Checks.{yes-all, all-yes, not-all, from-picked, false-true}
 use Rattle.wire.proofs.Texts.{Stands, stands, none-left}
@@ -40,35 +39,6 @@ placed w s p n =
     let f : p + 18 + w ≡ p + (18 + w) = omega arith in
     rw (a, b, c, d, e, f)
     (record { nbytes = refl; version = refl; objlen = refl; datime = refl; keylen = refl; cycle = refl; seekkey = refl; seekpdir = refl })
-
--- two headers with the same fields
-pub record Same (k l : Key) : Type 0 where
-  pub nbytes : k .nbytes ≡ l .nbytes
-  pub version : k .version ≡ l .version
-  pub objlen : k .objlen ≡ l .objlen
-  pub datime : k .datime ≡ l .datime
-  pub keylen : k .keylen ≡ l .keylen
-  pub cycle : k .cycle ≡ l .cycle
-  pub seekkey : k .seekkey ≡ l .seekkey
-  pub seekpdir : k .seekpdir ≡ l .seekpdir
-  pub class : k .class ≡ l .class
-  pub name : k .name ≡ l .name
-  pub title : k .title ≡ l .title
-
-pub same : {k l : Key} → Same k l → k ≡ l
-same e = λ i. record {
-  nbytes = e .nbytes i;
-  version = e .version i;
-  objlen = e .objlen i;
-  datime = e .datime i;
-  keylen = e .keylen i;
-  cycle = e .cycle i;
-  seekkey = e .seekkey i;
-  seekpdir = e .seekpdir i;
-  class = e .class i;
-  name = e .name i;
-  title = e .title i;
-}
 
 -- numbers within the limits, or not
 module _ {nbytes version objlen keylen sum : ℕ} where
@@ -117,7 +87,7 @@ module _ (s : List ℕ) (p end : ℕ) where
 
   pub no-strings : Cut ≡ namesIn s (p + fixedPart offsetWidth) end → Bad ≡ headerIn s p end
   unfolding headerIn
-  no-strings e = ap (λ (x : Named). onNames x (λ t. formed (keyAt s p t))) e
+  no-strings e = ap (headerOf (keyAt s p)) e
 
   -- no byte is left for strings
   pub too-short : end ≤ p + fixedPart offsetWidth → Bad ≡ headerIn s p end
@@ -125,9 +95,9 @@ module _ (s : List ℕ) (p end : ℕ) where
 
   -- the key k of strings n that were read, and the test of its limits
   module _ {n : Names} {k : Key} (f : Strings s p end n) (is : k ≡ keyAt s p n) where
-    header-is : headerIn s p end ≡ formed k
+    header-is : headerIn s p end ≡ pick (all (wellFormed k)) (Good k) Bad
     unfolding headerIn
-    header-is = ap (λ (x : Named). onNames x (λ t. formed (keyAt s p t))) (sym (f .read)) ∙ ap formed (sym is)
+    header-is = ap (headerOf (keyAt s p)) (sym (f .read)) ∙ ap (λ (l : Key). pick (all (wellFormed l)) (Good l) Bad) (sym is)
 
     pub good : All (wellFormed k) → Good k ≡ headerIn s p end
     good h = sym (header-is ∙ rw (yes-all (wellFormed k) h))
@@ -156,7 +126,7 @@ module _ (s : List ℕ) (p end : ℕ) where
   unfolding headerIn keyAt
   from-good {k} e = go (namesIn s (p + fixedPart offsetWidth) end) refl e
     where
-      go : (x : Named) → x ≡ namesIn s (p + fixedPart offsetWidth) end → Good k ≡ onNames x (λ t. formed (keyAt s p t)) → Formed k
+      go : (x : Named) → x ≡ namesIn s (p + fixedPart offsetWidth) end → Good k ≡ headerOf (keyAt s p) x → Formed k
       go (Held n) i e =
           let f = from-picked (wellFormed (keyAt s p n)) (Good (keyAt s p n)) Bad e (λ j. let z : _≡_ {A = ℕ} 0 1 = cc in omega arith) in
           let g : k ≡ keyAt s p n = let h = f .0 in cc in

@@ -7,7 +7,7 @@ use mathlib.Core.Path.{_≡_, refl, sym, ap, _∙_}
 use native.Mathlib.Omega.{arith}
 use borrow.Author.Tests.{lt-ltb, le-ltb, eq-eqb, ne-eqb, eqb-true}
 use lib.Dec.{eqb}
-use Rattle.wire.specs.Check.{all, All, pick}
+use Rattle.wire.specs.Check.{All, pick}
 use Rattle.wire.specs.Number.{numAt, signedOf}
 use Rattle.key.specs.Header.{headerIn}
 use Rattle.key.specs.declared.header.Header.{Header}
@@ -17,7 +17,7 @@ use Rattle.key.specs.declared.header.Key.{Key}
 use Rattle.key.specs.declared.header.Header.the-variants.{Good, Bad}
 use Rattle.key.specs.declared.piece.Piece.{Piece}
 use Rattle.key.specs.declared.piece.Piece.the-variants.{Record, Gap, Refused}
-use Rattle.wire.proofs.Checks.{yes-all, not-all, all-or, below-or}
+use Rattle.wire.proofs.Checks.{yes-all, not-all, all-or, below-or, false-true}
 use Rattle.wire.specs.Layout.{offsetWidth}
 use Rattle.key.specs.Header.{keyAt}
 use Rattle.key.proofs.Headers.{Formed, namesOf, placed, from-good}
@@ -100,7 +100,7 @@ module _ (s : List ℕ) (p : ℕ) where
   plus-size : recordThere s p ≡ true → sizeAt s p ≡ numAt 4 s p
   plus-size e =
       ⊎-elim (λ (l : numAt 4 s p < 2147483648). size-plus l)
-      (λ (l : 2147483648 ≤ numAt 4 s p). let g = sym e ∙ is-gap l in let z : _≡_ {A = ℕ} 0 1 = cc in absurd (omega arith))
+      (λ (l : 2147483648 ≤ numAt 4 s p). false-true (sym (is-gap l) ∙ e))
       (below-or (numAt 4 s p) 2147483648)
 
   view-header : All (sized s p) → recordThere s p ≡ true → (x : Header) → x ≡ headerIn s p (p + sizeAt s p) → View (recordOf p x)
@@ -136,34 +136,27 @@ module _ (s : List ℕ) (p : ℕ) where
       go : {k : Key} → View (Record k) → Recorded k
       go (a-record h) = h
 
+  gap-at : {n : ℕ} → View (Gap n) → ((4 ≤ n) × (p + n ≤ length s)) × (recordThere s p ≡ false)
+  gap-at (a-gap h e) = ((h .0, h .1 .0), e)
+
   -- what a gap at p says of the file
   pub from-gap : {n : ℕ} → pieceAt s p ≡ Gap n → (4 ≤ n) × (p + n ≤ length s)
-  from-gap e = go (viewed e)
-    where
-      go : {n : ℕ} → View (Gap n) → (4 ≤ n) × (p + n ≤ length s)
-      go (a-gap h i) = (h .0, h .1 .0)
+  from-gap e = gap-at (viewed e) .0
 
   -- where a record's number stands is no gap
   pub no-gap : numAt 4 s p < 2147483648 → {n : ℕ} → pieceAt s p ≡ Gap n → ⊥
-  no-gap l e = go (viewed e)
-    where
-      go : {n : ℕ} → View (Gap n) → ⊥
-      go (a-gap h i) = let j = sym i ∙ is-record l in let z : _≡_ {A = ℕ} 0 1 = cc in omega arith
+  no-gap l e = false-true (sym (gap-at (viewed e) .1) ∙ is-record l)
 
   -- a refusal at p names p, with 5 or 6
+  refused-at : {c q : ℕ} → View (Refused c q) → (q ≡ p) × ((c ≡ 5) ⊎ (c ≡ 6))
+  refused-at (no-size h) = (refl, inl refl)
+  refused-at (no-key h i) = (refl, inr refl)
+
   pub from-refused : {c q : ℕ} → pieceAt s p ≡ Refused c q → q ≡ p
-  from-refused e = go (viewed e)
-    where
-      go : {c q : ℕ} → View (Refused c q) → q ≡ p
-      go (no-size h) = refl
-      go (no-key h i) = refl
+  from-refused e = refused-at (viewed e) .0
 
   pub refused-number : {c q : ℕ} → pieceAt s p ≡ Refused c q → (c ≡ 5) ⊎ (c ≡ 6)
-  refused-number e = go (viewed e)
-    where
-      go : {c q : ℕ} → View (Refused c q) → (c ≡ 5) ⊎ (c ≡ 6)
-      go (no-size h) = inl refl
-      go (no-key h i) = inr refl
+  refused-number e = refused-at (viewed e) .1
 
   -- a piece that is no refusal has at least 4 bytes and ends in the file
   lies : (r : Piece) → pieceAt s p ≡ r → 0 < sizeOf r → (4 ≤ sizeOf r) × (p + sizeOf r ≤ length s)

@@ -1,28 +1,26 @@
 -- Every written header reads back.
 use Prim.Native.Nat.{ℕ, suc, _+_, _-_, _≤_, _<_}
-use mathlib.Core.List.{List, _++_, append-assoc}
-use mathlib.Core.Bool.{Bool, true, false}
+use mathlib.Core.List.{List, [], _∷_, _++_, append-assoc}
 use mathlib.Core.Path.{_≡_, refl, sym, ap, _∙_}
 use native.Mathlib.Omega.{arith}
-use borrow.Author.Tests.{leb-true, lt-ltb, le-ltb}
-use lib.Dec.{leb}
+use borrow.Author.Tests.{lt-ltb, le-ltb}
 use lib.IntN.{ℤ, pos, negsuc}
 use lib.Signed.{mag}
 use lib.ListN.{length, drop, getD}
 use lib.Seq.{drop-drop, drop-at}
-use Rattle.wire.specs.Answer.{done, refusal}
-use Rattle.wire.specs.Check.{All, all, pick}
+use Rattle.wire.specs.Answer.{refusal}
+use Rattle.wire.specs.Check.{le, All}
 use Rattle.wire.specs.Layout.{offsetWidth, valuesAt, valueBytes, Fit}
 use Rattle.wire.specs.Number.{numAt, signedOf, bitsOf}
 use Rattle.wire.specs.Patch.{patch}
 use Rattle.wire.specs.Text.{textSize, textIn, textOf, contentOf, textBytes}
 use Rattle.wire.specs.declared.Answer.{Answer}
 use Rattle.wire.specs.declared.text.Found.the-variants.{Held}
-use Rattle.wire.proofs.Checks.{all-yes}
+use Rattle.wire.proofs.Checks.{from-picked}
 use Rattle.wire.proofs.Layouts.{length-values, read-written}
 use Rattle.wire.proofs.Patches.{length-patch, drop-patch}
 use Rattle.wire.proofs.Texts.{text-there}
-use Rattle.key.specs.Header.{keyLayout, fixedPart, keyFrom, wellFormed, keyAt}
+use Rattle.key.specs.Header.{keyLayout, fixedPart, keyFrom, keyAt}
 use Rattle.key.specs.Piece.{sized, pieceAt}
 use Rattle.key.specs.declared.header.Names.{Names}
 use Rattle.key.specs.declared.piece.Piece.the-variants.{Record}
@@ -50,25 +48,13 @@ module _ (f : Fields) (class name title buf : List ℕ) where
   -- a refusal has a number
   accepted : writeAnswer f class name title buf .number ≡ 0 → Accepted f class name title buf
   unfolding writeAnswer
-  accepted ok = short (all (namesShort class name title)) refl ok
-    where
-      room : (b : Bool) → leb (f .seekkey + f .nbytes) (length buf) ≡ b → pick b (done (sumBytes class name title)) (refusal 17 0) .number ≡ 0
-          → f .seekkey + f .nbytes ≤ length buf
-      room true e h = leb-true (f .seekkey + f .nbytes) (length buf) e
-      room false e h = let z : _≡_ {A = ℕ} 17 0 = h in absurd (omega arith)
-
-      key : (b : Bool) → all (keyFits f class name title) ≡ b → All (namesShort class name title)
-          → pick b (pick (leb (f .seekkey + f .nbytes) (length buf)) (done (sumBytes class name title)) (refusal 17 0)) (refusal 16 0) .number ≡ 0
-          → Accepted f class name title buf
-      key true e s h = record { short = s; key = all-yes (keyFits f class name title) e; room = room _ refl h }
-      key false e s h = let z : _≡_ {A = ℕ} 16 0 = h in absurd (omega arith)
-
-      short : (b : Bool) → all (namesShort class name title) ≡ b
-          → pick b (pick (all (keyFits f class name title))
-          (pick (leb (f .seekkey + f .nbytes) (length buf)) (done (sumBytes class name title)) (refusal 17 0)) (refusal 16 0)) (refusal 15 0) .number ≡ 0
-          → Accepted f class name title buf
-      short true e h = key _ refl (all-yes (namesShort class name title) e) h
-      short false e h = let z : _≡_ {A = ℕ} 15 0 = h in absurd (omega arith)
+  accepted ok =
+      let n : (c : ℕ) → writeAnswer f class name title buf ≡ refusal (suc c) 0 → ⊥
+      = λ c e. let i : 0 ≡ suc c = sym ok ∙ ap (λ (a : Answer). a .number) e in omega arith in
+      let a = from-picked (namesShort class name title) _ _ refl (n 14) in
+      let b = from-picked (keyFits f class name title) _ _ (a .0) (n 15) in
+      let c = from-picked (le (f .seekkey + f .nbytes) (length buf) ∷ []) _ _ (b .0) (n 16) in
+      record { short = a .1; key = b .1; room = c .1 .0 }
 
   -- the numbers that are written, and the place of the strings
   abbrev numbers : List ℕ

@@ -16,7 +16,7 @@ use Rattle.wire.specs.Patch.{patch}
 use Rattle.wire.specs.Text.{textSize, textOf, contentOf}
 use Rattle.wire.proofs.Checks.{below-or}
 use Rattle.wire.proofs.Layouts.{write-read, values-fit}
-use Rattle.wire.proofs.Texts.{Stands, read-length, read-again}
+use Rattle.wire.proofs.Texts.{read-length, read-again}
 use Rattle.key.specs.Header.{keyLayout, fixedPart, keyAt, sumOf}
 use Rattle.key.specs.Piece.{sizeAt, pieceAt, answerOf, pieceAnswer}
 use Rattle.key.specs.declared.header.Key.{Key}
@@ -25,7 +25,7 @@ use Rattle.key.specs.declared.piece.Piece.{Piece}
 use Rattle.key.specs.declared.piece.Piece.the-variants.{Record}
 use Rattle.key.proofs.Headers.{Strings, namesOf}
 use Rattle.key.proofs.Pieces.{Recorded, from-record}
-use Rattle.key.specs.Writer.{nameBytes, sumBytes, numbersOf, headerBytes, keyOf, fieldsOf, namesShort, keyFits, writeAnswer, writeBuffer, WrittenAgain, Reads}
+use Rattle.key.specs.Writer.{nameBytes, sumBytes, numbersOf, headerBytes, keyOf, fieldsOf, keyFits, writeAnswer, writeBuffer, WrittenAgain, Reads}
 use Rattle.key.proofs.Writes.{Accepted, answer-is, buffer-is}
 
 -- two stretches of a file, one after the other

@@ -1,16 +1,16 @@
 -- The key writer: its answer and its buffer, from facts.
-use Prim.Native.Nat.{ℕ, _+_, _-_, _≤_, _<_}
-use mathlib.Core.List.{List, _++_}
+use Prim.Native.Nat.{ℕ, _+_, _≤_, _<_}
+use mathlib.Core.List.{List, [], _∷_}
 use mathlib.Core.Path.{_≡_, refl, sym, _∙_}
 use native.Mathlib.Omega.{arith}
-use borrow.Author.Tests.{le-leb, lt-leb, lt-ltb, ltb-true, ne-eqb}
+use borrow.Author.Tests.{lt-ltb, ltb-true, ne-eqb}
 use lib.ListN.{length, length-append}
 use lib.Signed.{mag}
 use lib.Dec.{ltb}
 use mathlib.Core.Bool.{Bool, true, false}
 use lib.IntN.{ℤ}
 use Rattle.wire.specs.Answer.{done, refusal}
-use Rattle.wire.specs.Check.{All, pick}
+use Rattle.wire.specs.Check.{le, All, pick}
 use Rattle.wire.specs.Layout.{offsetWidth, valueBytes}
 use Rattle.wire.specs.Number.{bitsOf, bits16}
 use Rattle.wire.specs.Patch.{patch}
@@ -20,7 +20,7 @@ use Rattle.wire.specs.declared.number.Bits.the-variants as bits
 use Rattle.wire.proofs.Checks.{yes-all, not-all}
 use Rattle.wire.proofs.Layouts.{length-values}
 use Rattle.wire.proofs.Texts.{length-text}
-use Rattle.key.specs.Header.{keyLayout, fixedPart, limits}
+use Rattle.key.specs.Header.{keyLayout, limits}
 use Rattle.key.specs.Writer.{nameBytes, sumBytes, numbersOf, headerBytes, keyOf, namesShort, keyFits, writeAnswer, writeBuffer}
 use Rattle.key.specs.declared.header.Fields.{Fields}
 
@@ -100,7 +100,7 @@ module _ (f : Fields) (class name title buf : List ℕ) where
         (rw (
           yes-all (namesShort class name title) short,
           yes-all (keyFits f class name title) h,
-          lt-leb (f .seekkey + f .nbytes) (length buf) l,
+          not-all (le (f .seekkey + f .nbytes) (length buf) ∷ []) (λ i. omega (arith, i)),
         ))
 
   pub answer-is : Accepted → writeAnswer f class name title buf ≡ done (sumBytes class name title)
@@ -109,7 +109,7 @@ module _ (f : Fields) (class name title buf : List ℕ) where
       rw (
         yes-all (namesShort class name title) (h .short),
         yes-all (keyFits f class name title) (h .key),
-        le-leb (f .seekkey + f .nbytes) (length buf) (h .room),
+        yes-all (le (f .seekkey + f .nbytes) (length buf) ∷ []) (h .room, tt),
       )
 
   pub buffer-is : Accepted → writeBuffer f class name title buf ≡ patch buf (f .seekkey) (headerBytes f class name title)

@@ -81,14 +81,11 @@ plain k = eq (k .keylen) (sumOf k) ∷ []
 abbrev pub unpackedData : Key → List Check
 unpackedData k = eq (k .objlen + k .keylen) (k .nbytes) ∷ []
 
--- a key that is well formed, of strings that were read
-abbrev pub formed : Key → Header
-formed k = pick (all (wellFormed k)) (Good k) Bad
-
-abbrev pub onNames : Named → (Names → Header) → Header
-onNames (Held t) f = f t
-onNames Cut f = Bad
+-- the header of a key whose strings were read, and it is well formed
+abbrev pub headerOf : (Names → Key) → Named → Header
+headerOf k (Held t) = pick (all (wellFormed (k t))) (Good (k t)) Bad
+headerOf k Cut = Bad
 
 -- the header at p, read within the bytes before end: its strings end there, and so all that is read lies there
 unfoldable pub headerIn : List ℕ → ℕ → ℕ → Header
-headerIn s p end = onNames (namesIn s (p + fixedPart offsetWidth) end) (λ t. formed (keyAt s p t))
+headerIn s p end = headerOf (keyAt s p) (namesIn s (p + fixedPart offsetWidth) end)

@@ -5,9 +5,9 @@ use mathlib.Core.List.{List, [], _∷_, _++_}
 use mathlib.Core.Path.{_≡_}
 use lib.ListN.{length, take, drop}
 use lib.Signed.{mag}
-use lib.Dec.{leb, eqb}
+use lib.Dec.{eqb}
 use Rattle.wire.specs.Answer.{done, refusal}
-use Rattle.wire.specs.Check.{Check, lt, all, All, pick}
+use Rattle.wire.specs.Check.{Check, le, lt, all, All, pick}
 use Rattle.wire.specs.Layout.{offsetWidth, valueBytes}
 use Rattle.wire.specs.Number.{Bytes, bitsOf}
 use Rattle.wire.specs.Patch.{patch}
@@ -81,7 +81,7 @@ unfoldable pub writeAnswer : Fields → List ℕ → List ℕ → List ℕ → L
 writeAnswer f class name title buf =
     pick (all (namesShort class name title))
     (pick (all (keyFits f class name title))
-    (pick (leb (f .seekkey + f .nbytes) (length buf)) (done (sumBytes class name title)) (refusal 17 0))
+    (pick (all (le (f .seekkey + f .nbytes) (length buf) ∷ [])) (done (sumBytes class name title)) (refusal 17 0))
     (refusal 16 0))
     (refusal 15 0)
 

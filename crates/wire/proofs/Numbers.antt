@@ -1,9 +1,9 @@
 -- Laws of big-endian numbers, over the width.
-use Prim.Native.Nat.{ℕ, zero, suc, _+_, _-_, _*_, _/_, _%_, _^_, _<_, _≤_}
+use Prim.Native.Nat.{ℕ, zero, suc, _+_, _*_, _/_, _%_, _^_, _<_, _≤_}
 use mathlib.Core.List.{List, _∷_, _++_}
 use mathlib.Core.Logic.{⊎-elim}
 use mathlib.Core.Path.{_≡_, refl, _∙_}
-use native.Mathlib.Nat.{add-zero, zero-add, add-assoc, div-add-mod', div-lt-iff-lt-mul, pow-suc}
+use native.Mathlib.Nat.{add-zero, zero-add, div-add-mod', div-lt-iff-lt-mul, pow-suc}
 use native.Mathlib.Numerals.{add-one}
 use native.Mathlib.Omega.{arith}
 use borrow.Author.Tests.{le-leb, lt-leb}
@@ -13,7 +13,6 @@ use mathlib.Core.List.{append-assoc}
 use Rattle.wire.specs.Number.{beValue, Bytes, numAt, beBytes, lesser}
 use Rattle.wire.specs.Patch.{patch}
 use Rattle.wire.proofs.Checks.{below-or}
-use Rattle.wire.proofs.Patches.{patch-at}
 
 -- the number is there, or not
 pub num-in : (w : ℕ) (s : List ℕ) (p : ℕ) → p + w ≤ length s → numAt w s p ≡ beValue w s p
@@ -54,14 +53,6 @@ value-bytes (suc w) v t h =
     let b = getD-append-add (beBytes w (v / 256)) (v % 256 ∷ t) 0 0 in
     let c : getD (beBytes w (v / 256) ++ (v % 256 ∷ t)) (0 + w) 0 ≡ v % 256 = rw (zero-add w) (rw (length-bytes w (v / 256), add-zero w) at b) in
     rw (append-assoc, a, c) (div-add-mod' v 256)
-
--- a value depends on its own bytes alone
-pub value-patch : (w : ℕ) (b : List ℕ) (at : ℕ) (x : List ℕ) → at + length x ≤ length b → (i : ℕ) → i + w ≤ length x
-    → beValue w (patch b at x) (at + i) ≡ beValue w x i
-unfolding beValue
-value-patch zero b at x l i h = refl
-value-patch (suc w) b at x l i h =
-    rw (value-patch w b at x l i (omega arith), add-assoc at i w, patch-at b at x l (i + w) (omega arith))
 
 -- the value of bytes gives the bytes
 pub bytes-value : (w : ℕ) (s : List ℕ) (p : ℕ) → Bytes s → p + w ≤ length s → beBytes w (beValue w s p) ≡ take w (drop p s)

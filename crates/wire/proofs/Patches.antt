@@ -5,8 +5,8 @@ use mathlib.Core.Path.{_≡_, ap, _∙_}
 use native.Mathlib.Nat.{zero-add, add-zero, add-assoc}
 use native.Mathlib.Numerals.{add-one}
 use native.Mathlib.Omega.{arith}
-use lib.ListN.{length, take, drop, set, getD, length-append, length-take, length-drop, drop-of-length-le, List·getD-append, take-append-drop}
-use lib.Seq.{take-all, take-at, drop-at, drop-drop, set-split, length-take-le, getD-append-add}
+use lib.ListN.{length, take, drop, set, length-append, length-take, length-drop, drop-of-length-le, take-append-drop}
+use lib.Seq.{take-all, take-at, drop-at, drop-drop, set-split, length-take-le}
 use borrow.Rule.Slice.PartMut.{midOf, putMid}
 use Rattle.wire.specs.Patch.{patch}
 
@@ -40,13 +40,6 @@ module _ (b : List ℕ) (at : ℕ) (x : List ℕ) (l : at + length x ≤ length 
   pub drop-patch : drop at (patch b at x) ≡ x ++ drop (at + length x) b
   unfolding patch
   drop-patch = drop-at (take at b) _ at (length-take-le at b (omega arith))
-
-  pub patch-at : (i : ℕ) → i < length x → getD (patch b at x) (at + i) 0 ≡ getD x i 0
-  unfolding patch
-  patch-at i h =
-      let a : length (take at b) ≡ at = length-take-le at b (omega arith) in
-      let e = getD-append-add (take at b) (x ++ drop (at + length x) b) i 0 in
-      (rw a at e) ∙ List·getD-append x (drop (at + length x) b) 0 i h
 
 over-front : (b w : List ℕ) (at : ℕ) (x y : List ℕ) → take (at + length x) w ≡ take at b ++ x
     → drop (at + length x) w ≡ drop (at + length x) b → patch w (at + length x) y ≡ patch b at (x ++ y)

@@ -1,22 +1,18 @@
 -- Counted strings: what the reader answers, from facts, and back; a string that stands in a file, read and written again.
-use Prim.Native.Nat.{ℕ, _+_, _-_, _≤_, _<_}
-use mathlib.Core.List.{List, _∷_, _++_}
+use Prim.Native.Nat.{ℕ, _+_, _≤_, _<_}
+use mathlib.Core.List.{List, _++_}
 use mathlib.Core.Path.{_≡_, refl, sym, ap, _∙_}
 use native.Mathlib.Nat.{add-zero, add-assoc}
 use native.Mathlib.Numerals.{add-one, one-add}
 use native.Mathlib.Omega.{arith}
 use lib.ListN.{length, take, drop, getD, length-drop}
 use lib.Seq.{getD-drop, drop-drop, drop-at, take-at, drop-cons, length-take-le}
-use Rattle.wire.specs.Check.{Check, le, Holds, All}
-use Rattle.wire.specs.Text.{textSize, lengthFits, textOf, textAt, textFits, textIn, contentOf, textBytes, onText}
+use Rattle.wire.specs.Check.{Holds, All}
+use Rattle.wire.specs.Text.{textSize, lengthFits, textOf, textAt, textChecks, textIn, contentOf, textBytes, onText}
 use Rattle.wire.specs.declared.text.Text.{Text}
 use Rattle.wire.specs.declared.text.Found.{Found}
 use Rattle.wire.specs.declared.text.Found.the-variants.{Held, Cut}
 use Rattle.wire.proofs.Checks.{picked, not-picked, from-picked, from-not-picked}
-
--- what a string that is read within end meets
-abbrev pub textChecks : List ℕ → ℕ → ℕ → List Check
-textChecks s p end = le end (length s) ∷ textFits (textAt s p) end
 
 module _ (s : List ℕ) (p end : ℕ) where
   pub is-cut : (All (textChecks s p end) → ⊥) → Cut ≡ textIn s p end

@@ -23,13 +23,12 @@ textOf p n = record { start = p + 1; len = n; next = p + textSize n }
 unfoldable pub textAt : List ℕ → ℕ → Text
 textAt s p = textOf p (getD s p 0)
 
--- its length is taken, and it ends at or before end
-abbrev pub textFits : Text → ℕ → List Check
-textFits t end = lengthFits (t .len) ∷ le (t .next) end ∷ []
+-- the string at p, read within the bytes before end: its length is taken, and it ends at or before end
+abbrev pub textChecks : List ℕ → ℕ → ℕ → List Check
+textChecks s p end = le end (length s) ∷ lengthFits (textAt s p .len) ∷ le (textAt s p .next) end ∷ []
 
--- the string at p, read within the bytes before end
 unfoldable pub textIn : List ℕ → ℕ → ℕ → Found
-textIn s p end = pick (all (le end (length s) ∷ textFits (textAt s p) end)) (Held (textAt s p)) Cut
+textIn s p end = pick (all (textChecks s p end)) (Held (textAt s p)) Cut
 
 -- the content of a string
 unfoldable pub contentOf : List ℕ → Text → List ℕ

@@ -5,6 +5,9 @@ ghost use Rattle.wire.specs.Lent.{before};
 ghost use Rattle.wire.specs.Text.{textIn};
 use crate::number::word;
 
+// The longest string: no length byte is 255.
+pub const LONGEST: usize = 254;
+
 // Where a string stands: its first byte, its length, and the place after it.
 pub struct Text {
     pub start: usize,
@@ -28,7 +31,7 @@ pub fn read_text(s: &[u8], at: usize, end: usize) -> Found
         return Found::Cut;
     }
     let len = s[at] as usize;
-    if len == 255 {
+    if LONGEST < len {
         return Found::Cut;
     }
     if end - at <= len {

@@ -2,17 +2,16 @@
 use Prim.Native.Nat.{ℕ, zero, suc, _+_, _-_, _/_, _%_, _<_, _≤_}
 use mathlib.Core.List.{List, [], _∷_, _++_, append-assoc, append-nil}
 use mathlib.Core.Path.{_≡_, refl, sym, ap, _∙_}
-use native.Mathlib.Nat.{zero-add, add-zero, add-assoc}
+use native.Mathlib.Nat.{zero-add}
 use native.Mathlib.Numerals.{add-one}
 use native.Mathlib.Omega.{arith}
 use borrow.Rule.Slice.PartMut.{midOf, putMid}
 use lib.ListN.{length, take, drop, set, getD, length-append, length-set}
 use lib.Seq.{take-all, take-suc, length-take-le, drop-at, set-split}
-use Rattle.wire.specs.Check.{Holds}
 use Rattle.wire.specs.Layout.{extent, valueBytes}
 use Rattle.wire.specs.Number.{beBytes}
 use Rattle.wire.specs.Patch.{patch}
-use Rattle.wire.specs.Text.{textSize, textBytes}
+use Rattle.wire.specs.Text.{textBytes}
 use Rattle.wire.proofs.Layouts.{length-values}
 use Rattle.wire.proofs.Numbers.{length-bytes}
 use Rattle.wire.proofs.Patches.{length-patch, patch-nil, patch-set, set-patch, patch-patch, part-then}

@@ -21,13 +21,15 @@ use wire::finished;
 use wire::number::Bits;
 use wire::number::bits_of;
 use wire::refused;
+use wire::text::LONGEST;
 
 mod store;
 
 // Writes three strings, one after the other, at the front of a part.
 fn put_names(part: &mut [u8], class: &[u8], name: &[u8], title: &[u8])
     requires { ⌜ All (namesShort (now class) (now name) (now title))
-        × (textSize (length (now class)) + textSize (length (now name)) + textSize (length (now title)) ≤ length (now part)) ⌝ }
+        × (textSize (length (now class)) + textSize (length (now name)) + textSize (length (now title))
+        ≤ length (now part)) ⌝ }
     ensures { λ _. ⌜ after part ≡ patch (before part) 0 (nameBytes (before class) (before name) (before title)) ⌝ }
 {
     put_text(&mut *part, class);
@@ -50,7 +52,8 @@ fn put_header(
     requires { ⌜ All (namesShort (now class) (now name) (now title)) × (cycle ≡ bitsOf 2 (f .cycle))
         × (sumBytes (now class) (now name) (now title) ≤ length (now part)) ⌝ }
     ensures { λ _. ⌜ after part ≡ patch (before part) 0
-        (valueBytes (keyLayout offsetWidth) (numbersOf f keylen) ++ nameBytes (before class) (before name) (before title)) ⌝ }
+        (valueBytes (keyLayout offsetWidth) (numbersOf f keylen)
+        ++ nameBytes (before class) (before name) (before title)) ⌝ }
 {
     let widths: [usize; 8] = [4, 2, 4, 4, 2, 2, 4, 4];
     let values: [u64; 8] = [
@@ -72,13 +75,13 @@ fn put_header(
 pub fn write_key(f: Fields, class: &[u8], name: &[u8], title: &[u8], buf: &mut [u8]) -> Answer
     ensures { λ r. ⌜ Writes f (before class) (before name) (before title) (before buf) (after buf) r ⌝ }
 {
-    if 254 < class.len() {
+    if LONGEST < class.len() {
         return refused(15, 0);
     }
-    if 254 < name.len() {
+    if LONGEST < name.len() {
         return refused(15, 0);
     }
-    if 254 < title.len() {
+    if LONGEST < title.len() {
         return refused(15, 0);
     }
     let sum = FIXED + (1 + class.len()) + (1 + name.len()) + (1 + title.len());

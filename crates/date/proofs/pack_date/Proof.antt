@@ -4,10 +4,6 @@ use Rattle.date.proofs.Dates.{out-of-range, taken}
 use borrow.Author.Needs.{needs}
 use Rattle.date.proofs.pack_date.Statement.{statement}
 use Rattle.date.proofs.pack_date.Tie as tie
-use Rattle.date.proofs.pack_date.Reads as reads
-use Rattle.date.proofs.pack_date.Lts as lts
-use Rattle.wire.proofs.finished.Reads as finished-reads
-use Rattle.wire.proofs.refused.Reads as refused-reads
 
 -- src/lib.rt:28:9
 returns : tie.Need-returns

@@ -1,6 +1,5 @@
 use native.Mathlib.Omega.{arith}
 use Rattle.key.proofs.Headers.{within, not-within}
-use borrow.Author.Needs.{needs}
 use Rattle.key.proofs.header.is_formed.Statement.{statement}
 use Rattle.key.proofs.header.is_formed.Tie as tie
 

@@ -1,4 +1,3 @@
-use mathlib.Core.Path.{_∙_}
 use Rattle.writer.proofs.Stores.{Laying, lay-began, lay-length, lay-room, lay-turn, lay-ended}
 use borrow.Author.Needs.{needs}
 use native.Mathlib.Omega.{arith}
