@@ -1,51 +1,16 @@
--- Tables that are filled row by row: zeros from a row on, and the first parts.
-use Prim.Native.Nat.{ℕ, _+_, _-_, _<_, _≤_}
+-- The first parts, filled in row by row.
+use Prim.Native.Nat.{ℕ, _+_, _<_, _≤_}
 use mathlib.Core.List.{List, [], _∷_, _++_, map, append-nil}
 use mathlib.Core.Path.{_≡_, refl, sym, ap, _∙_}
-use native.Mathlib.Nat.{zero-add, sub-self}
+use native.Mathlib.Nat.{zero-add}
 use native.Mathlib.Numerals.{add-one}
 use native.Mathlib.Omega.{arith}
-use lib.ListN.{length, take, set, getD, replicate, length-map, length-replicate, drop-of-length-le, replicate-append-replicate}
+use lib.ListN.{length, take, set, getD, length-map, drop-of-length-le}
 use lib.Seq.{take-suc, take-all, length-take-le}
 use Rattle.wire.specs.Patch.{patch}
 use Rattle.wire.proofs.Patches.{length-patch, patch-nil, patch-set}
 use Rattle.fileheader.specs.declared.FileHead.{FileHead}
 use Rattle.rules.specs.Turn.{firstPart, firstParts}
-
--- while a table is cleared: zeros up to a row
-pub record Clearing (t u : List ℕ) (from i : ℕ) : Type 0 where
-  pub begun : from ≤ i
-  pub within : i ≤ length t
-  pub table : u ≡ patch t from (replicate (i - from) 0)
-
-pub clear-began : (t : List ℕ) (from : ℕ) → from ≤ length t → Clearing t t from from
-clear-began t from l = record { begun = omega arith; within = l; table = sym (rw sub-self (patch-nil t from)) }
-
-module _ {t u : List ℕ} {from i : ℕ} (m : Clearing t u from i) where
-  filled : from + length {A = ℕ} (replicate (i - from) 0) ≡ i
-  filled = rw length-replicate (omega (arith, m .begun))
-
-  pub clear-kept : length u ≡ length t
-  clear-kept = ap length (m .table) ∙ length-patch t from (replicate (i - from) 0) (omega (arith, filled, m .within))
-
-  pub clear-again : i < length u → Clearing t (set u i 0) from (i + 1)
-  clear-again l =
-      let k : i - from + 1 ≡ i + 1 - from = omega (arith, m .begun) in
-      record {
-        begun = omega (arith, m .begun);
-        within = omega (arith, clear-kept);
-        table =
-            ap (λ (w : List ℕ). set w i 0) (m .table)
-            ∙ patch-set t from (replicate (i - from) 0) i 0 (sym filled) (omega (arith, clear-kept))
-            ∙ ap (patch t from) (replicate-append-replicate (i - from) 1 0 ∙ ap (λ (n : ℕ). replicate n 0) k);
-      }
-
-  pub clear-ended : length u ≤ i → u ≡ take from t ++ replicate (length t - from) 0
-  unfolding patch
-  clear-ended l =
-      let e : i ≡ length t = omega (arith, clear-kept, m .within) in
-      let f : from + length {A = ℕ} (replicate (length t - from) 0) ≡ length t = rw length-replicate (omega (arith, m .begun)) in
-      m .table ∙ rw (e, f, drop-of-length-le t {i = length t} (omega arith), append-nil)
 
 -- while the parts are filled in
 pub record Parting (s start t u : List ℕ) (h : FileHead) (i : ℕ) : Type 0 where

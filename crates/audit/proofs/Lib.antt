@@ -1,9 +1,6 @@
 pub mod Fills
-pub mod Frees
-pub mod Gaps
 pub mod Listings
 pub mod Partitions
 pub mod Rulings
-pub mod Searches
 pub mod Turns
 pub mod Verdicts

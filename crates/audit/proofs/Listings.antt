@@ -20,14 +20,18 @@ use Rattle.wire.specs.Name.{tDirectory}
 use Rattle.record.specs.Name.{sameBytes, named}
 use Rattle.record.proofs.Tests.{passed}
 use Rattle.rules.specs.Entry.{isRecord, entryFits}
-use Rattle.rules.specs.Row.{starts, rowOf}
-use Rattle.rules.specs.Turn.{Turn, going, stop, andThen, give, listedMark, onCopy, copyTurn, copies}
+use Rattle.rules.specs.Row.{starts}
+use Rattle.rules.specs.Turn.{rowOf, Turn, going, stop, andThen, listedMark, onCopy, copyTurn, copies}
 use Rattle.rules.proofs.Items.{same?}
 use Rattle.rules.proofs.Rows.{start-there, no-start, row-of}
-use Rattle.audit.specs.Listing.{Ran, NoneBelow, NoOther, Tables}
-use Rattle.audit.specs.Row.{RowOf}
-use Rattle.audit.specs.declared.rows.Row.{Row}
-use Rattle.audit.specs.declared.rows.Row.the-variants.{At, Nothing}
+use Rattle.rows.specs.Row.{Rises, RowOf}
+use Rattle.rows.specs.declared.Row.{Row}
+use Rattle.rows.specs.declared.Row.the-variants.{At, Nothing}
+use Rattle.audit.specs.Listing.{Step, Ran, given, copyStep, Tested, NoneBelow, NoOther, Tables}
+use Rattle.audit.specs.declared.keys.Span.{Span}
+use Rattle.audit.specs.declared.keys.Gift.{Gift}
+use Rattle.audit.specs.declared.keys.Entry.{Entry}
+use Rattle.audit.specs.declared.keys.Entry.the-variants as entry
 use Rattle.audit.specs.declared.keys.Listed.{Listed}
 use Rattle.audit.specs.declared.keys.Listed.the-variants.{Next, Fault}
 
@@ -73,28 +77,19 @@ faulted ps us vs n p e = (ran-fault us vs n p e, quiet-fault ps us n p)
 pub tables-kept : {qs ps os us vs : List ℕ} → Tables qs ps os → length us ≡ length ps → length vs ≡ length os → Tables qs us vs
 tables-kept t e f = record { rising = t .rising; parts = e ∙ t .parts; owners = f ∙ t .owners }
 
-pub tables-set : (qs ps os : List ℕ) (i m d : ℕ) → Tables qs ps os → Tables qs (set ps i m) (set os i d)
-tables-set qs ps os i m d t = tables-kept t (length-set ps i m) (length-set os i d)
-
 -- a row that was sought
-pub record Sought (qs ps os : List ℕ) (p i : ℕ) : Type 0 where
-  pub part : i < length ps
-  pub owner : i < length os
+pub record Sought (qs : List ℕ) (p i : ℕ) : Type 0 where
+  pub within : i < length qs
   pub row : rowOf qs p ≡ i
   pub start : starts qs p ≡ true
 
-pub sought : (qs ps os : List ℕ) (p i : ℕ) {r : Row} → Tables qs ps os → RowOf qs p r → r ≡ At i → Sought qs ps os p i
-sought qs ps os p i t h e =
+pub sought : (qs : List ℕ) (p i : ℕ) {r : Row} → Rises qs → RowOf qs p r → r ≡ At i → Sought qs p i
+sought qs p i up h e =
     let g : RowOf qs p (At i) = rw e at h in
-    record {
-      part = omega (arith, g .0, t .parts);
-      owner = omega (arith, g .0, t .owners);
-      row = row-of qs p i (t .rising) (g .0) (g .1);
-      start = start-there qs p i (g .0) (g .1);
-    }
+    record { within = g .0; row = row-of qs p i up (g .0) (g .1); start = start-there qs p i (g .0) (g .1) }
 
-pub no-row : (qs : List ℕ) (p : ℕ) {r : Row} → RowOf qs p r → r ≡ Nothing → starts qs p ≡ false
-no-row qs p h e = no-start qs p (rw e at h)
+pub no-row : (qs : List ℕ) (p : ℕ) {r : Row} → Rises qs → RowOf qs p r → r ≡ Nothing → starts qs p ≡ false
+no-row qs p up h e = let g : RowOf qs p Nothing = rw e at h in no-start qs p (g up)
 
 pub never : (b : Bool) {A : Type 0} → b ≡ false → b ≡ true → A
 never b e f = absurd (subst T (sym (sym e ∙ f)) tt)
@@ -112,34 +107,62 @@ pub not-marked : (b : Bool) {n : Bool} → b ≡ n → b ≡ false → _≡_ {A 
 not-marked b e f = rw (sym e ∙ f)
 
 -- the tests that a copy passed
-pub entry : (s qs : List ℕ) (d c : ℕ) (k : Key) {l : Key} {b : Bool} → starts qs (k .seekkey) ≡ true → pieceAt s (k .seekkey) ≡ Record l
+pub copy-passed : (s qs : List ℕ) (d c : ℕ) (k : Key) {l : Key} {b : Bool} → starts qs (k .seekkey) ≡ true → pieceAt s (k .seekkey) ≡ Record l
     → b ≡ sameBytes s c (k .seekkey) (k .keylen) → not b ≡ false → k .seekpdir ≡ d → All (entryFits s qs d c k)
-entry s qs d c k st e f g h = (st, (ap isRecord e, (passed _ _ f g, (h, tt))))
+copy-passed s qs d c k st e f g h = (st, (ap isRecord e, (passed _ _ f g, (h, tt))))
 
--- one copy
-module _ (s qs : List ℕ) (d seek end : ℕ) (ps os : List ℕ) (c : ℕ) where
-  pub copy-bad : Bad ≡ copyIn s c end → copyTurn s qs d seek end ps os c ≡ stop 12 seek
+-- the test of a copy
+module _ (s qs : List ℕ) (l : Span) (c : ℕ) where
+  pub copy-bad : Bad ≡ copyIn s c (l .end) → Tested qs (copyStep s qs l c) (entry.Fault 12 (l .seek))
   unfolding copyTurn
-  copy-bad e = ap (onCopy s qs d seek c ps os) (sym e)
+  copy-bad e ps os = ap (onCopy s qs (l .dir) (l .seek) c ps os) (sym e)
 
-  module _ {k : Key} (e : Good k ≡ copyIn s c end) where
-    by-key : copyTurn s qs d seek end ps os c ≡ onCopy s qs d seek c ps os (Good k)
+  module _ {k : Key} (e : Good k ≡ copyIn s c (l .end)) where
+    by-key : (ps os : List ℕ) → copyStep s qs l c ps os ≡ onCopy s qs (l .dir) (l .seek) c ps os (Good k)
     unfolding copyTurn
-    by-key = ap (onCopy s qs d seek c ps os) (sym e)
+    by-key ps os = ap (onCopy s qs (l .dir) (l .seek) c ps os) (sym e)
 
-    pub copy-wrong : (All (entryFits s qs d c k) → ⊥) → copyTurn s qs d seek end ps os c ≡ stop 13 c
-    copy-wrong h = by-key ∙ rw (not-all (entryFits s qs d c k) h)
+    pub copy-wrong : (All (entryFits s qs (l .dir) c k) → ⊥) → Tested qs (copyStep s qs l c) (entry.Fault 13 c)
+    copy-wrong h ps os = by-key ps os ∙ rw (not-all (entryFits s qs (l .dir) c k) h)
 
-    module _ (h : All (entryFits s qs d c k)) {i : ℕ} (o : rowOf qs (k .seekkey) ≡ i) where
-      by-row : copyTurn s qs d seek end ps os c ≡ give i (listedMark s (k .seekkey)) d (c + k .keylen) c ps os
-      by-row = by-key ∙ rw (yes-all (entryFits s qs d c k) h, o)
+    pub copy-fits : All (entryFits s qs (l .dir) c k) → {i m : ℕ} → Sought qs (k .seekkey) i → m ≡ listedMark s (k .seekkey)
+        → Tested qs (copyStep s qs l c) (entry.Fits (record { row = i; part = m; dir = l .dir; next = c + k .keylen; place = c }))
+    copy-fits h o f = (o .within, λ ps os. by-key ps os ∙ rw (yes-all (entryFits s qs (l .dir) c k) h, o .row, sym f))
 
-      pub copy-taken : (getD ps i 0 ≡ 7 → ⊥) → copyTurn s qs d seek end ps os c ≡ stop 14 c
-      copy-taken z = by-row ∙ rw (ne-eqb (getD ps i 0) 7 z)
+-- a row that is set: no other holds a directory that was found
+pub row-set : (ps os : List ℕ) (i m d c : ℕ) {x : Turn} → i < length ps → x ≡ going (set ps i m) (set os i d) c
+    → Ran x (Next c i) (set ps i m) (set os i d) × NoOther ps (set ps i m) (Next c i)
+unfolding NoOther
+row-set ps os i m d c k e = (
+  ran-next (set ps i m) (set os i d) c i e,
+  (rw length-set k, λ j n h. rw (getD-set-other ps i j m 0 n) at h),
+)
 
-      pub copy-given : {m : ℕ} → getD ps i 0 ≡ 7 → m ≡ listedMark s (k .seekkey)
-          → copyTurn s qs d seek end ps os c ≡ going (set ps i m) (set os i d) (c + k .keylen)
-      copy-given z f = by-row ∙ rw (eq-eqb (getD ps i 0) 7 z, f)
+pub copy-stopped : (ps us vs : List ℕ) (n p : ℕ) {x : Turn} → x ≡ stop n p → Ran x (Fault n p) us vs × NoOther ps us (Fault n p)
+unfolding NoOther
+copy-stopped ps us vs n p e = (ran-fault us vs n p e, tt)
+
+-- a gift that is made, or is not
+module _ (g : Gift) (ps os : List ℕ) where
+  pub gift-late : (us vs : List ℕ) → (getD ps (g .row) 0 ≡ 7 → ⊥)
+      → Ran (given g ps os) (Fault 14 (g .place)) us vs × NoOther ps us (Fault 14 (g .place))
+  gift-late us vs z = copy-stopped ps us vs 14 (g .place) (rw (ne-eqb (getD ps (g .row) 0) 7 z))
+
+  pub gift-made : g .row < length ps → getD ps (g .row) 0 ≡ 7 → Ran (given g ps os) (Next (g .next) (g .row))
+      (set ps (g .row) (g .part)) (set os (g .row) (g .dir)) × NoOther ps (set ps (g .row) (g .part)) (Next (g .next) (g .row))
+  gift-made l z = row-set ps os (g .row) (g .part) (g .dir) (g .next) l (rw (eq-eqb (getD ps (g .row) 0) 7 z))
+
+-- one copy, from its test
+module _ (qs : List ℕ) (step : Step) (ps os us vs : List ℕ) {x : Entry} (h : Tested qs step x) where
+  pub copy-row : {g : Gift} → x ≡ entry.Fits g → g .row < length qs
+  copy-row {g} e = let t : Tested qs step (entry.Fits g) = rw e at h in t .0
+
+  pub copy-gave : {g : Gift} (r : Listed) → x ≡ entry.Fits g → Ran (given g ps os) r us vs × NoOther ps us r
+      → Ran (step ps os) r us vs × NoOther ps us r
+  copy-gave {g} r e k = let t : Tested qs step (entry.Fits g) = rw e at h in (rw (t .1 ps os) (k .0), k .1)
+
+  pub copy-stops : {c p : ℕ} → x ≡ entry.Fault c p → Ran (step ps os) (Fault c p) us vs × NoOther ps us (Fault c p)
+  copy-stops {c} {p} e = let t : Tested qs step (entry.Fault c p) = rw e at h in copy-stopped ps us vs c p (t ps os)
 
 -- the row that is told where a directory was found, and where none was
 pub found-here : (m i n : ℕ) → 8 ≤ m → _≡_ {A = ℕ} i (pick (leb 8 m) i n)
@@ -150,19 +173,6 @@ found-low m i n f g e l h = let x = e ∙ sym (found-here m i n h) in omega arit
 
 pub found-none : (m i n : ℕ) → m < 8 → _≡_ {A = ℕ} n (pick (leb 8 m) i n)
 found-none m i n l = rw (lt-leb 8 m l)
-
--- a row that is set: no other holds a directory that was found
-pub given : (ps os : List ℕ) (i m d c : ℕ) {x : Turn} → i < length ps → x ≡ going (set ps i m) (set os i d) c
-    → Ran x (Next c i) (set ps i m) (set os i d) × NoOther ps (set ps i m) (Next c i)
-unfolding NoOther
-given ps os i m d c k e = (
-  ran-next (set ps i m) (set os i d) c i e,
-  (rw length-set k, λ j n h. rw (getD-set-other ps i j m 0 n) at h),
-)
-
-pub copy-stopped : (ps us vs : List ℕ) (n p : ℕ) {x : Turn} → x ≡ stop n p → Ran x (Fault n p) us vs × NoOther ps us (Fault n p)
-unfolding NoOther
-copy-stopped ps us vs n p e = (ran-fault us vs n p e, tt)
 
 pub told-row : (ps us : List ℕ) {r : Listed} {at row : ℕ} → r ≡ Next at row → NoOther ps us r
     → (row < length us) × ((i : ℕ) → (i ≡ row → ⊥) → 8 ≤ getD us i 0 → 8 ≤ getD ps i 0)

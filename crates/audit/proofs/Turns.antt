@@ -14,19 +14,25 @@ use Rattle.wire.specs.Number.{numAt}
 use Rattle.wire.proofs.Checks.{yes-all, not-all, below-or}
 use Rattle.directory.specs.Dir.{headIn, subIn, dirOf, noKeys}
 use Rattle.keylist.specs.Keys.{listIn}
+use Rattle.keylist.proofs.Records.{list-lies}
 use Rattle.keylist.specs.declared.Data.{Data}
 use Rattle.keylist.specs.declared.Data.the-variants as span
 use Rattle.directory.specs.declared.Dir.{Dir}
 use Rattle.directory.specs.declared.Dir.the-variants as dir
 use Rattle.directory.specs.declared.DirHead.{DirHead}
 use Rattle.fileheader.specs.declared.FileHead.{FileHead}
-use Rattle.rules.specs.Row.{starts, rowOf}
-use Rattle.rules.specs.Turn.{Turn, going, stop, andThen, give, copies, ended, dataTurn, onData, keysIn, keysTurn, onDir, dirTurn, settle, roundTurn, nextRow, rounds}
+use Rattle.rules.specs.Row.{starts}
+use Rattle.rules.specs.Turn.{Turn, going, stop, andThen, copies, ended, dataTurn, onData, keysIn, keysTurn, onDir, dirTurn, settle, roundTurn}
+use Rattle.rules.specs.Turn.{nextRow, rounds}
 use Rattle.rules.proofs.Rows.{next-row-at, next-row-none, next-row, rounds-over, rounds-more}
-use Rattle.audit.specs.Listing.{Ran, NoneBelow, Done, DoneTo, Tables}
+use Rattle.rules.proofs.Runs.{gave}
+use Rattle.audit.specs.Listing.{Ran, given, Heading, Found, NoneBelow, Done, DoneTo, Tables}
+use Rattle.audit.specs.declared.keys.Gift.{Gift}
+use Rattle.audit.specs.declared.keys.Keys.{Keys}
+use Rattle.audit.specs.declared.keys.Keys.the-variants as keys
 use Rattle.audit.specs.declared.keys.Listed.{Listed}
 use Rattle.audit.specs.declared.keys.Listed.the-variants.{Next, Fault}
-use Rattle.audit.proofs.Listings.{ran-next, ran-fault, next-is, fault-is, quiet-next, from-quiet, faulted, tables-kept, Below}
+use Rattle.audit.proofs.Listings.{ran-next, ran-fault, next-is, fault-is, quiet-next, from-quiet, faulted, tables-kept, Below, Sought}
 
 -- the data of a keys list
 module _ (s qs : List ℕ) (d seek a end : ℕ) (ps os : List ℕ) (c : ℕ) where
@@ -55,44 +61,41 @@ module _ (s qs : List ℕ) (d seek a end : ℕ) (ps os : List ℕ) (c : ℕ) whe
         pub data-ended : at ≡ end → Ran (dataTurn s qs d seek a end ps os c) (Next at low) us vs × NoneBelow ps us (Next at low)
         data-ended z = (ran-next us vs at low (at-end ∙ rw (eq-eqb at end z)), rw f at (h .1))
 
--- the keys list, from the row of its record
-module _ (s qs : List ℕ) (d : ℕ) (dh : DirHead) (ps os : List ℕ) where
-  pub no-keys : dh .seekkeys + dh .nbyteskeys ≡ 0 → keysTurn s qs d dh ps os ≡ going ps os 0
+-- the record of a keys list, from its row
+module _ (s qs : List ℕ) (d : ℕ) (dh : DirHead) where
+  pub no-keys : dh .seekkeys + dh .nbyteskeys ≡ 0 → Found s qs d dh keys.Nothing
   unfolding keysTurn
-  no-keys e = rw (yes-all (noKeys dh) (omega arith))
+  no-keys e ps os = rw (yes-all (noKeys dh) (omega arith))
 
   module _ (z : dh .seekkeys + dh .nbyteskeys ≡ 0 → ⊥) where
-    by-data : {x : Data} → keysIn s qs d dh ≡ x → keysTurn s qs d dh ps os ≡ onData s qs d (dh .seekkeys) ps os x
+    by-data : {x : Data} → keysIn s qs d dh ≡ x → (ps os : List ℕ) → keysTurn s qs d dh ps os ≡ onData s qs d (dh .seekkeys) ps os x
     unfolding keysTurn
-    by-data e = rw (not-all (noKeys dh) (λ a. z (omega (arith, a)))) (ap (onData s qs d (dh .seekkeys) ps os) e)
+    by-data e ps os = rw (not-all (noKeys dh) (λ a. z (omega (arith, a)))) (ap (onData s qs d (dh .seekkeys) ps os) e)
 
-    nowhere : starts qs (dh .seekkeys) ≡ false → keysIn s qs d dh ≡ span.Bad
+    pub keys-nowhere : starts qs (dh .seekkeys) ≡ false → Found s qs d dh (keys.Fault 12 (dh .seekkeys))
     unfolding keysIn
-    nowhere e = rw e
+    keys-nowhere e = by-data {x = span.Bad} (rw e)
 
-    somewhere : starts qs (dh .seekkeys) ≡ true → keysIn s qs d dh ≡ listIn s (dh .seekkeys) (dh .nbyteskeys) d
-    unfolding keysIn
-    somewhere e = rw e
+    module _ {i : ℕ} (o : Sought qs (dh .seekkeys) i) {p : ℕ} (f : p ≡ d) where
+      somewhere : {x : Data} → x ≡ listIn s (dh .seekkeys) (dh .nbyteskeys) p → keysIn s qs d dh ≡ x
+      unfolding keysIn
+      somewhere g = rw (o .start) (rw f at (sym g))
 
-    pub keys-nowhere : starts qs (dh .seekkeys) ≡ false → keysTurn s qs d dh ps os ≡ stop 12 (dh .seekkeys)
-    keys-nowhere e = by-data (nowhere e)
+      pub keys-bad : span.Bad ≡ listIn s (dh .seekkeys) (dh .nbyteskeys) p → Found s qs d dh (keys.Fault 12 (dh .seekkeys))
+      keys-bad g = by-data (somewhere g)
 
-    module _ (e : starts qs (dh .seekkeys) ≡ true) {p : ℕ} (f : p ≡ d) where
-      pub keys-bad : span.Bad ≡ listIn s (dh .seekkeys) (dh .nbyteskeys) p → keysTurn s qs d dh ps os ≡ stop 12 (dh .seekkeys)
-      keys-bad g = by-data (somewhere e ∙ rw f at (sym g))
-
-      module _ {a end : ℕ} (g : span.Held a end ≡ listIn s (dh .seekkeys) (dh .nbyteskeys) p) {i : ℕ}
-          (o : rowOf qs (dh .seekkeys) ≡ i) where
-        by-row : keysTurn s qs d dh ps os
-            ≡ andThen (dataTurn s qs d (dh .seekkeys) a end) (give i 4 d (a + 4) d ps os)
-        by-row = by-data (somewhere e ∙ rw f at (sym g)) ∙ rw o refl
-
-        pub keys-taken : (getD ps i 0 ≡ 7 → ⊥) → keysTurn s qs d dh ps os ≡ stop 14 d
-        keys-taken h = by-row ∙ rw (ne-eqb (getD ps i 0) 7 h)
-
-        pub keys-given : getD ps i 0 ≡ 7
-            → keysTurn s qs d dh ps os ≡ dataTurn s qs d (dh .seekkeys) a end (set ps i 4) (set os i d) (a + 4)
-        keys-given h = by-row ∙ rw (eq-eqb (getD ps i 0) 7 h)
+      pub keys-held : {a end : ℕ} → span.Held a end ≡ listIn s (dh .seekkeys) (dh .nbyteskeys) p
+          → Found s qs d dh (keys.Held (record { row = i; part = 4; dir = d; next = a + 4; place = p }) a end)
+      keys-held {a} {end} g =
+          let l = list-lies s (dh .seekkeys) (dh .nbyteskeys) p g in
+          record {
+            row = o .within;
+            part = refl;
+            begins = l .0;
+            ends = l .1;
+            turn = λ ps os. by-data (somewhere g) ps os ∙ rw (o .row, f);
+            next = refl;
+          }
 
 -- a row that was given part 4 holds no directory
 below-set : (ps us : List ℕ) (i low : ℕ) → i < length ps → Below (set ps i 4) us low → Below ps us low
@@ -107,12 +110,43 @@ unfolding NoneBelow
 quiet-set ps us i (Next at low) l h = below-set ps us i low l h
 quiet-set ps us i (Fault n p) l h = tt
 
-pub keys-ran : (ps us vs : List ℕ) (i : ℕ) (r : Listed) {x y : Turn} → i < length ps → x ≡ y → Ran y r us vs × NoneBelow (set ps i 4) us r
-    → Ran x r us vs × NoneBelow ps us r
-keys-ran ps us vs i r l e h = (rw e (h .0), quiet-set ps us i r l (h .1))
+-- the keys list, from what was found
+module _ (s qs : List ℕ) (d : ℕ) (dh : DirHead) (ps os : List ℕ) {x : Keys} (h : Found s qs d dh x) where
+  pub keys-none : (low : ℕ) → x ≡ keys.Nothing → Ran (keysTurn s qs d dh ps os) (Next 0 low) ps os × NoneBelow ps ps (Next 0 low)
+  keys-none low e =
+      let f : Found s qs d dh keys.Nothing = rw e at h in
+      (ran-next ps os 0 low (f ps os), quiet-next ps ps 0 low (λ i l y. y))
 
-pub nothing-new : (ps os : List ℕ) (c low : ℕ) {x : Turn} → x ≡ going ps os c → Ran x (Next c low) ps os × NoneBelow ps ps (Next c low)
-nothing-new ps os c low e = (ran-next ps os c low e, quiet-next ps ps c low (λ i l h. h))
+  pub keys-stops : (us vs : List ℕ) {c p : ℕ} → x ≡ keys.Fault c p
+      → Ran (keysTurn s qs d dh ps os) (Fault c p) us vs × NoneBelow ps us (Fault c p)
+  keys-stops us vs {c} {p} e = let f : Found s qs d dh (keys.Fault c p) = rw e at h in faulted ps us vs c p (f ps os)
+
+  pub keys-heading : {g : Gift} {a end : ℕ} → x ≡ keys.Held g a end → Heading s qs d dh g a end
+  keys-heading {g} {a} {end} e = let f : Found s qs d dh (keys.Held g a end) = rw e at h in f
+
+module _ {s qs : List ℕ} {d : ℕ} {dh : DirHead} {g : Gift} {a end : ℕ} (k : Heading s qs d dh g a end) (ps os us vs : List ℕ)
+    (r : Listed) (h : Ran (given g ps os) r us vs) where
+  pub keys-late : {n p : ℕ} → r ≡ Fault n p → Ran (keysTurn s qs d dh ps os) r us vs × NoneBelow ps us r
+  keys-late {n} {p} e =
+      let f = fault-is (given g ps os) us vs n p (rw e at h) in
+      rw e (faulted ps us vs n p (k .turn ps os ∙ ap (andThen (dataTurn s qs d (dh .seekkeys) a end)) f))
+
+  module _ {at low : ℕ} (e : r ≡ Next at low) where
+    gone : given g ps os ≡ going us vs at
+    gone = next-is (given g ps os) us vs at low (rw e at h)
+
+    made : (us ≡ set ps (g .row) 4) × (at ≡ a + 4)
+    made =
+        let f = gave (g .row) (g .part) (g .dir) (g .next) (g .place) ps os gone in
+        (f .1 .0 ∙ ap (set ps (g .row)) (k .part), f .1 .1 .1 ∙ k .next)
+
+    pub keys-ran : g .row < length ps → (us′ vs′ : List ℕ) (q : Listed)
+        → Ran (dataTurn s qs d (dh .seekkeys) a end us vs (a + 4)) q us′ vs′ × NoneBelow us us′ q
+        → Ran (keysTurn s qs d dh ps os) q us′ vs′ × NoneBelow ps us′ q
+    keys-ran l us′ vs′ q j = (
+      rw (k .turn ps os ∙ ap (andThen (dataTurn s qs d (dh .seekkeys) a end)) gone ∙ ap (dataTurn s qs d (dh .seekkeys) a end us vs) (made .1)) (j .0),
+      quiet-set ps us′ (g .row) q l (rw (made .0) at (j .1)),
+    )
 
 -- the header of the directory at a place
 module _ (s : List ℕ) (h : FileHead) (p parent : ℕ) where

@@ -1,31 +1,33 @@
 -- The verdict, case by case, and the tables with it.
-use Prim.Native.Nat.{ℕ, _+_, _-_, _<_, _≤_}
+use Prim.Native.Nat.{ℕ, _+_, _<_, _≤_}
 use mathlib.Core.List.{List, _++_}
-use mathlib.Core.Logic.{_⊎_, inl, inr, ⊎-elim}
 use mathlib.Core.Path.{_≡_, refl, sym, ap, _∙_, subst}
 use native.Mathlib.Omega.{arith}
 use borrow.Author.Tests.{le-leb, lt-leb}
-use lib.ListN.{length, take, replicate, length-take}
+use lib.ListN.{length, take}
 use lib.Dec.{leb}
 use lib.Seq.{take-at, length-take-le}
 use Rattle.wire.specs.Check.{pick}
-use Rattle.wire.specs.Answer.{refusal}
+use Rattle.wire.specs.Answer.{done, refusal}
+use Rattle.wire.specs.Lent.{Lent, before, after}
 use Rattle.wire.specs.declared.Answer.{Answer}
-use Rattle.wire.proofs.Checks.{below-or}
+use Rattle.wire.proofs.Numbers.{lesser-within}
 use Rattle.key.specs.Piece.{pieceAt}
 use Rattle.key.specs.declared.piece.Piece.the-variants as piece
 use Rattle.fileheader.specs.File.{openedAs}
 use Rattle.fileheader.specs.declared.FileHead.{FileHead}
 use Rattle.fileheader.specs.declared.Opened.the-variants as opened
 use Rattle.wire.specs.Number.{lesser}
-use Rattle.rules.specs.Order.{Chain, whole, chain, ruled, Verdict, passed, refused, onTurn, onChain, onOpened, verdict, numberOf, startsOf, partsOf, ownersOf, tableOf}
+use Rattle.table.specs.Table.{filled, cleared}
+use Rattle.rules.specs.Order.{Chain, whole, chain, ruled, Verdict, passed, refused, onTurn, onChain, onOpened, verdict, numberOf, startsOf, partsOf, ownersOf}
 use Rattle.rules.specs.Partition.{Partition}
 use Rattle.rules.specs.Turn.{Turn, going, stop}
 use Rattle.rules.proofs.Partitions.{rises}
 use Rattle.rules.proofs.Chains.{chain-whole, chain-fault}
 use Rattle.rules.proofs.Demands.{demand}
 use Rattle.audit.specs.Listing.{Ran, Tables}
-use Rattle.audit.specs.Tables.{roomOf, Answers, Begins, Filled, Audited}
+use Rattle.audit.specs.Examined.{Answers, Begins, Filled}
+use Rattle.audit.specs.Tables.{roomOf, room, told, Audits}
 use Rattle.audit.specs.Walk.{over, Walked}
 use Rattle.audit.specs.declared.chain.Outcome.{Outcome}
 use Rattle.audit.specs.declared.keys.Listed.{Listed}
@@ -86,9 +88,9 @@ module _ {v : Verdict} (t u w : List ℕ) where
   told-fault e g = subst (λ (x : Answer). Examined v x t u w) (sym g) (told-refusal e (λ z. refl))
 
   told-pass : {qs ps os : List ℕ} {n : ℕ} → v ≡ passed qs ps os → n ≡ length qs → Begins qs t → Begins ps u → Begins os w
-      → length ps ≡ length qs → length os ≡ length qs → Examined v (record { number = 0; place = 0; count = n }) t u w
-  told-pass {qs} {ps} {os} {n} e m a b c l k =
-      subst (λ (x : Verdict). Examined x (record { number = 0; place = 0; count = n }) t u w) (sym e) (
+      → length ps ≡ length qs → length os ≡ length qs → {y : Answer} → y ≡ done n → Examined v y t u w
+  told-pass {qs} {ps} {os} {n} e m a b c l k {y} z =
+      rw (e, z) (
         record { number = refl; place = refl; count = m },
         record { starts = a; parts = b; owners = c; eachPart = l; eachOwner = k; counted = λ z. refl },
       )
@@ -108,13 +110,6 @@ room-is : (t u v w : List ℕ) {a b : ℕ} → length u ≡ length t → a ≡ l
     → a ≡ roomOf t v w
 room-is t u v w {a} {b} l e f = e ∙ rw (l, f)
 
-lesser-or : (a b : ℕ) → (lesser a b ≤ a) × (lesser a b ≤ b)
-lesser-or a b =
-    ⊎-elim (λ (l : a ≤ b). rw (le-leb a b l) (omega arith)) (λ (l : b < a). rw (lt-leb a b l) (omega arith)) (le-or a b)
-  where
-    le-or : (a b : ℕ) → (a ≤ b) ⊎ (b < a)
-    le-or a b = ⊎-elim (λ (l : b < a). inr l) (λ (l : a ≤ b). inl l) (below-or b a)
-
 pub record Fits (n : ℕ) (t v w : List ℕ) : Type 0 where
   pub room : n ≤ roomOf t v w
   pub starts : n ≤ length t
@@ -123,8 +118,8 @@ pub record Fits (n : ℕ) (t v w : List ℕ) : Type 0 where
 
 fits : (t v w : List ℕ) {n a : ℕ} → a ≡ roomOf t v w → n ≤ a → Fits n t v w
 fits t v w {n} {a} e l =
-    let f = lesser-or (length t) (lesser (length v) (length w)) in
-    let g = lesser-or (length v) (length w) in
+    let f = lesser-within (length t) (lesser (length v) (length w)) in
+    let g = lesser-within (length v) (length w) in
     record { room = omega (arith, e); starts = omega (arith, e, f); parts = omega (arith, e, f, g); owners = omega (arith, e, f, g) }
 
 -- a whole chain: its starts, and the table with them
@@ -175,9 +170,9 @@ module _ {s : List ℕ} {h : FileHead} {t u : List ℕ} {n : ℕ} (k : Entire s 
     entire-stops ps os x y e r g = told-fault u x y (turned (ran-fault (ruled s h (take n u)) ps os e r)) g
 
     pub entire-passes : {a b : ℕ} {r : Listed} (ps os x y : List ℕ) → length ps ≡ length (take n v) → length os ≡ length (take n w)
-        → r ≡ Next a b → Ran (ruled s h (take n u)) r ps os
-        → Examined (verdict s (roomOf t v w)) (record { number = 0; place = 0; count = n }) u (ps ++ x) (os ++ y)
-    entire-passes ps os x y a b e r =
+        → r ≡ Next a b → Ran (ruled s h (take n u)) r ps os → {d : Answer} → d ≡ done n
+        → Examined (verdict s (roomOf t v w)) d u (ps ++ x) (os ++ y)
+    entire-passes ps os x y a b e r z =
         told-pass u (ps ++ x) (os ++ y)
         (turned (ran-next (ruled s h (take n u)) ps os e r))
         (k .count)
@@ -186,6 +181,7 @@ module _ {s : List ℕ} {h : FileHead} {t u : List ℕ} {n : ℕ} (k : Entire s 
         (take-at os y (length os) refl)
         (a ∙ length-take-le n v (fit .parts) ∙ k .count)
         (b ∙ length-take-le n w (fit .owners) ∙ k .count)
+        z
 
 -- the rows that are kept when the rest is cleared
 pub record Rows (v : Verdict) (n : ℕ) (t u w : List ℕ) : Type 0 where
@@ -206,55 +202,23 @@ module _ {v : Verdict} {a : Answer} {t u w : List ℕ} (x : Examined v a t u w) 
   pub rows-none : {n : ℕ} → (a .number ≡ 0 → ⊥) → n ≡ 0 → Rows v n t u w
   rows-none z e = record { count = e ∙ no-rows v (λ i. z (x .0 .number ∙ i)); filled = x .1 }
 
-begins-within : (xs t : List ℕ) → Begins xs t → length xs ≤ length t
-begins-within xs t b =
-    let e : length (take (length xs) t) ≡ length xs = ap length b in
-    let f = rw length-take at e in
-    omega arith
-
-begins-table : (xs t r u : List ℕ) {n : ℕ} → Begins xs t → n ≡ length xs → length t ≡ length r
-    → u ≡ take n t ++ replicate (length t - n) 0 → u ≡ tableOf xs r
+begins-table : (xs t r u : List ℕ) {n : ℕ} → Begins xs t → n ≡ length xs → length t ≡ length r → u ≡ cleared t n → u ≡ filled xs (length r)
 begins-table xs t r u b e l f = f ∙ rw (e, b, l)
 
--- what the tables hold afterwards: the rows, then zeros to the end of each
-pub record Told (v : Verdict) (start part owner start′ part′ owner′ : List ℕ) : Type 0 where
-  pub starts : start′ ≡ tableOf (startsOf v) start
-  pub parts : part′ ≡ tableOf (partsOf v) part
-  pub owners : owner′ ≡ tableOf (ownersOf v) owner
-
-pub audited : (s t u w t₁ u₁ w₁ : List ℕ) {a : Answer} → Answers (verdict s (roomOf t u w)) a
-    → Told (verdict s (roomOf t u w)) t u w t₁ u₁ w₁ → Audited s t u w t₁ u₁ w₁ (a .number) (a .place) (a .count)
-audited s t u w t₁ u₁ w₁ x y = record {
-  theNumber = x .number;
-  thePlace = x .place;
-  theCount = x .count;
-  starts = y .starts;
-  parts = y .parts;
-  owners = y .owners;
-  demand = demand s (roomOf t u w);
+-- once the rest of each table is cleared
+pub audited : (file start part owner : Lent) (a : Answer) {n : ℕ} (t u w : List ℕ) → Answers (told file start part owner) a
+    → Rows (told file start part owner) n t u w → length t ≡ length (before start) → length u ≡ length (before part)
+    → length w ≡ length (before owner) → after start ≡ cleared t n → after part ≡ cleared u n → after owner ≡ cleared w n
+    → Audits file start part owner a
+audited file start part owner a t u w x y i j k d e f = record {
+  number = x .number;
+  place = x .place;
+  count = x .count;
+  starts = begins-table (startsOf v) t (before start) (after start) (y .filled .starts) (y .count) i d;
+  parts = begins-table (partsOf v) u (before part) (after part) (y .filled .parts) (y .count ∙ sym (y .filled .eachPart)) j e;
+  owners = begins-table (ownersOf v) w (before owner) (after owner) (y .filled .owners) (y .count ∙ sym (y .filled .eachOwner)) k f;
+  demand = demand (before file) (room file start part owner);
 }
-
-module _ {v : Verdict} {n : ℕ} {t u w : List ℕ} (x : Rows v n t u w) where
-  parts-count : n ≡ length (partsOf v)
-  parts-count = x .count ∙ sym (x .filled .eachPart)
-
-  owners-count : n ≡ length (ownersOf v)
-  owners-count = x .count ∙ sym (x .filled .eachOwner)
-
-  pub rows-starts : n ≤ length t
-  rows-starts = omega (arith, x .count, begins-within (startsOf v) t (x .filled .starts))
-
-  pub rows-parts : n ≤ length u
-  rows-parts = omega (arith, parts-count, begins-within (partsOf v) u (x .filled .parts))
-
-  pub rows-owners : n ≤ length w
-  rows-owners = omega (arith, owners-count, begins-within (ownersOf v) w (x .filled .owners))
-
-  pub rows-told : (t₀ u₀ w₀ : List ℕ) {t₁ u₁ w₁ : List ℕ} → length t ≡ length t₀ → length u ≡ length u₀ → length w ≡ length w₀
-      → t₁ ≡ take n t ++ replicate (length t - n) 0 → u₁ ≡ take n u ++ replicate (length u - n) 0
-      → w₁ ≡ take n w ++ replicate (length w - n) 0 → Told v t₀ u₀ w₀ t₁ u₁ w₁
-  rows-told t₀ u₀ w₀ {t₁} {u₁} {w₁} a b c d e f = record {
-    starts = begins-table (startsOf v) t t₀ t₁ (x .filled .starts) (x .count) a d;
-    parts = begins-table (partsOf v) u u₀ u₁ (x .filled .parts) parts-count b e;
-    owners = begins-table (ownersOf v) w w₀ w₁ (x .filled .owners) owners-count c f;
-  }
+  where
+    v : Verdict
+    v = told file start part owner

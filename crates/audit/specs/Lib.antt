@@ -1,4 +1,4 @@
+pub mod Examined
 pub mod Listing
-pub mod Row
 pub mod Tables
 pub mod Walk

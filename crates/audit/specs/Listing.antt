@@ -1,19 +1,78 @@
--- What a step over the directories answers, and what the tables of parts and owners hold afterwards.
-use Prim.Native.Nat.{ℕ, _<_, _≤_}
+-- Only private functions and proofs use these: what a step over the directories answers, and what the tables of parts and owners
+-- hold then.
+use Prim.Native.Nat.{ℕ, _+_, _<_, _≤_}
 use mathlib.Core.List.{List}
 use mathlib.Core.Path.{_≡_}
 use lib.ListN.{length, getD}
-use Rattle.rules.specs.Turn.{Turn, going, stop}
-use Rattle.rules.specs.Row.{Rising}
+use Rattle.wire.specs.Lent.{Lent, before, after}
+use Rattle.directory.specs.declared.DirHead.{DirHead}
+use Rattle.fileheader.specs.declared.FileHead.{FileHead}
+use Rattle.rows.specs.Row.{Rises}
+use Rattle.rules.specs.Turn.{Turn, going, stop, andThen, give, copyTurn, copies, dataTurn, keysTurn, rounds}
+use Rattle.audit.specs.declared.keys.Span.{Span}
+use Rattle.audit.specs.declared.keys.Gift.{Gift}
+use Rattle.audit.specs.declared.keys.Entry.{Entry}
+use Rattle.audit.specs.declared.keys.Entry.the-variants as entry
+use Rattle.audit.specs.declared.keys.Keys.{Keys}
+use Rattle.audit.specs.declared.keys.Keys.the-variants as keys
 use Rattle.audit.specs.declared.keys.Listed.{Listed}
 use Rattle.audit.specs.declared.keys.Listed.the-variants.{Next, Fault}
 
--- the answer and the tables are a turn's; a refusal leaves the tables free
+-- three tables of one length, the starts rising
+pub record Tables (start part owner : List ℕ) : Type 0 where
+  pub rising : Rises start
+  pub parts : length part ≡ length start
+  pub owners : length owner ≡ length start
+
+-- a turn over the parts and owners that a step was lent: the answer and the tables are its; a refusal leaves the tables free
+abbrev pub Step : Type 0
+Step = List ℕ → List ℕ → Turn
+
 unfoldable pub Ran : Turn → Listed → List ℕ → List ℕ → Type 0
 Ran (going ps os c) (Next at low) us vs = (at ≡ c) × ((us ≡ ps) × (vs ≡ os))
 Ran (going ps os c) (Fault n p) us vs = ⊥
 Ran (stop n p) (Next at low) us vs = ⊥
 Ran (stop n p) (Fault m q) us vs = (m ≡ n) × (q ≡ p)
+
+abbrev pub Runs : Step → Lent → Lent → Listed → Type 0
+Runs step part owner r = Ran (step (before part) (before owner)) r (after part) (after owner)
+
+-- a copy, some copies, and the data of a keys list
+abbrev pub copyStep : List ℕ → List ℕ → Span → ℕ → Step
+copyStep s qs l c ps os = copyTurn s qs (l .dir) (l .seek) (l .end) ps os c
+
+abbrev pub copiesStep : List ℕ → List ℕ → Span → ℕ → ℕ → Step
+copiesStep s qs l n c ps os = copies s qs (l .dir) (l .seek) (l .end) n ps os c
+
+abbrev pub dataStep : List ℕ → List ℕ → Span → ℕ → Step
+dataStep s qs l a ps os = dataTurn s qs (l .dir) (l .seek) a (l .end) ps os (a + 4)
+
+-- all directories
+abbrev pub roundsStep : List ℕ → FileHead → List ℕ → Step
+roundsStep s h qs ps os = rounds s h qs (length qs) ps os 0
+
+-- a gift is given
+abbrev pub given : Gift → Step
+given g = give (g .row) (g .part) (g .dir) (g .next) (g .place)
+
+-- a step that a test of the bytes told: it gives, or it stops
+abbrev pub Tested : List ℕ → Step → Entry → Type 0
+Tested qs step (entry.Fits g) = (g .row < length qs) × ((ps os : List ℕ) → step ps os ≡ given g ps os)
+Tested qs step (entry.Fault c p) = (ps os : List ℕ) → step ps os ≡ stop c p
+
+-- a keys list whose record was found
+pub record Heading (s qs : List ℕ) (d : ℕ) (dh : DirHead) (g : Gift) (from end : ℕ) : Type 0 where
+  pub row : g .row < length qs
+  pub part : g .part ≡ 4
+  pub begins : from ≤ end
+  pub ends : end ≤ length s
+  pub turn : (ps os : List ℕ) → keysTurn s qs d dh ps os ≡ andThen (dataTurn s qs d (dh .seekkeys) from end) (given g ps os)
+  pub next : g .next ≡ from + 4
+
+abbrev pub Found : List ℕ → List ℕ → ℕ → DirHead → Keys → Type 0
+Found s qs d dh keys.Nothing = (ps os : List ℕ) → keysTurn s qs d dh ps os ≡ going ps os 0
+Found s qs d dh (keys.Held g from end) = Heading s qs d dh g from end
+Found s qs d dh (keys.Fault c p) = (ps os : List ℕ) → keysTurn s qs d dh ps os ≡ stop c p
 
 -- below the row that is told, no directory was found
 unfoldable pub NoneBelow : List ℕ → List ℕ → Listed → Type 0
@@ -33,9 +92,3 @@ DoneTo us (Fault n p) = Unit
 unfoldable pub NoOther : List ℕ → List ℕ → Listed → Type 0
 NoOther ps us (Next at row) = (row < length us) × ((i : ℕ) → (i ≡ row → ⊥) → 8 ≤ getD us i 0 → 8 ≤ getD ps i 0)
 NoOther ps us (Fault n p) = Unit
-
--- three tables of one length, the starts rising
-pub record Tables (start part owner : List ℕ) : Type 0 where
-  pub rising : Rising start (length start)
-  pub parts : length part ≡ length start
-  pub owners : length owner ≡ length start

@@ -1,4 +1,4 @@
--- The walk over the chain, and the table it writes.
+-- Only private functions and proofs use these: the walk over the chain, and the table it writes.
 use Prim.Native.Nat.{ℕ, _<_}
 use mathlib.Core.List.{List, _++_}
 use mathlib.Core.Path.{_≡_}

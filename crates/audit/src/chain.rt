@@ -2,6 +2,7 @@
 ghost use mathlib.Core.Path.{_≡_};
 ghost use Prim.Native.Nat.{_≤_};
 ghost use lib.ListN.{length};
+ghost use Rattle.wire.specs.Lent.{before, after};
 ghost use Rattle.key.specs.Piece.{pieceAt};
 ghost use Rattle.audit.specs.Walk.{stepOf, Walked};
 use key::piece::Piece;
@@ -15,7 +16,7 @@ pub enum Outcome {
 
 // The size of the piece at a place, or the refusal there.
 pub(crate) fn size_at(file: &[u8], at: usize) -> Outcome
-    ensures { λ r. ⌜ r ≡ stepOf (pieceAt (now (file .entry)) at) ⌝ }
+    ensures { λ r. ⌜ r ≡ stepOf (pieceAt (before file) at) ⌝ }
 {
     match read_piece(file, at) {
         Piece::Record(k) => Outcome::Whole(k.nbytes as usize),
@@ -27,7 +28,7 @@ pub(crate) fn size_at(file: &[u8], at: usize) -> Outcome
 // Walks the chain and writes each piece's start to the table, as far as there is room.
 pub(crate) fn walk(file: &[u8], start: &mut [u32]) -> Outcome
     requires { ⌜ (100 ≤ length (now file)) × (length (now file) ≤ 1999999999) ⌝ }
-    ensures { λ r. ⌜ Walked (now (file .entry)) (now (start .entry)) (now (start .exit)) r ⌝ }
+    ensures { λ r. ⌜ Walked (before file) (before start) (after start) r ⌝ }
 {
     let mut at: usize = 100;
     let mut n: usize = 0;

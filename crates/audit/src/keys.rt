@@ -1,17 +1,16 @@
 // A directory's keys list: the list and the record of each copy are given their part and owner.
 ghost use mathlib.Core.Path.{_≡_};
-ghost use Prim.Native.Nat.{_≤_, _+_};
+ghost use Prim.Native.Nat.{_≤_, _<_};
 ghost use lib.Dec.{leb};
 ghost use lib.ListN.{length};
 ghost use Rattle.wire.specs.Check.{pick};
+ghost use Rattle.wire.specs.Lent.{before, after};
 ghost use Rattle.wire.specs.Name.{tDirectory};
 ghost use Rattle.record.specs.Name.{named};
-ghost use Rattle.rules.specs.Turn.{copyTurn, copies, dataTurn, keysTurn};
-ghost use Rattle.audit.specs.Listing.{Ran, NoneBelow, NoOther, Tables};
-use crate::rows::Row;
-use crate::rows::find_row;
-use crate::rows::long;
-use crate::rows::seek_row;
+ghost use Rattle.rows.specs.Row.{Rises};
+ghost use Rattle.rules.specs.Turn.{keysTurn};
+ghost use Rattle.audit.specs.Listing.{given, Tested, Found, copyStep, copiesStep, dataStep};
+ghost use Rattle.audit.specs.Listing.{Runs, NoneBelow, NoOther, Tables};
 use directory::DirHead;
 use key::header::Header;
 use key::header::Key;
@@ -22,17 +21,51 @@ use keylist::read_copy;
 use keylist::read_list;
 use record::is_directory;
 use record::same_at;
+use rows::Row;
+use rows::find_row;
+use rows::seek_row;
+use table::long;
 use wire::number::be32;
 
-// The next place of a list and a row, of a copy its own, else the lowest of a directory that was found; or the first refusal.
+// The next place of a list and a row, of a copy its own, else the lowest of a directory that was found; or the first
+// refusal.
 pub enum Listed {
     Next(usize, usize),
     Fault(u32, usize),
 }
 
+// A keys list: the place of its directory, its own, and the end of its data.
+pub struct Span {
+    pub dir: u32,
+    pub seek: u32,
+    pub end: usize,
+}
+
+// A record that is to have a part and an owner: its row and both; the next place of a list; the place of a refusal.
+pub struct Gift {
+    pub row: usize,
+    pub part: u32,
+    pub dir: u32,
+    pub next: usize,
+    pub place: usize,
+}
+
+// A copy: what it gives its record, or a refusal.
+pub enum Entry {
+    Fits(Gift),
+    Fault(u32, usize),
+}
+
+// A directory's keys list: none, what it gives its own record, with the start and end of its data, or a refusal.
+pub enum Keys {
+    Nothing,
+    Held(Gift, usize, usize),
+    Fault(u32, usize),
+}
+
 // The part of a record that is listed: 14 is a directory, found and not done.
 fn mark_of(file: &[u8], k: Key) -> u32
-    ensures { λ r. ⌜ r ≡ pick (named (now (file .entry)) (k .class) tDirectory) 14 5 ⌝ }
+    ensures { λ r. ⌜ r ≡ pick (named (before file) (k .class) tDirectory) 14 5 ⌝ }
 {
     if is_directory(file, k.class) {
         return 14;
@@ -50,44 +83,68 @@ fn found_row(mark: u32, row: usize, other: usize) -> usize
     other
 }
 
+// Gives a record its part and owner, where it has none.
+fn give_part(part: &mut [u32], owner: &mut [u32], g: Gift) -> Listed
+    requires { ⌜ (g .row < length (now part)) × (length (now owner) ≡ length (now part)) ⌝ }
+    ensures { λ r. ⌜ Runs (given g) part owner r × NoOther (before part) (after part) r ⌝ }
+{
+    let row = g.row;
+    if part[row] != 7 {
+        return Listed::Fault(14, g.place);
+    }
+    part[row] = g.part;
+    owner[row] = g.dir;
+    Listed::Next(g.next, row)
+}
+
+// Tests a copy of a keys list: it is the copy of a record of the partition that the directory owns.
+fn test_copy(file: &[u8], start: &[u32], list: Span, at: usize, near: usize) -> Entry
+    requires { ⌜ Rises (now start) ⌝ }
+    ensures { λ r. ⌜ Tested (before start) (copyStep (before file) (before start) list at) r ⌝ }
+{
+    let Header::Good(k) = read_copy(file, at, list.end) else {
+        return Entry::Fault(12, list.seek as usize);
+    };
+    let place = k.seekkey as usize;
+    let Row::At(row) = seek_row(start, place, near) else {
+        return Entry::Fault(13, at);
+    };
+    let Piece::Record(l) = read_piece(file, place) else {
+        return Entry::Fault(13, at);
+    };
+    if !same_at(file, at, place, k.keylen as usize) {
+        return Entry::Fault(13, at);
+    }
+    if k.seekpdir != list.dir as u64 {
+        return Entry::Fault(13, at);
+    }
+    Entry::Fits(Gift {
+        row,
+        part: mark_of(file, l),
+        dir: list.dir,
+        next: at + k.keylen as usize,
+        place: at,
+    })
+}
+
 // One copy of a keys list.
 fn one_copy(
     file: &[u8],
     start: &[u32],
     part: &mut [u32],
     owner: &mut [u32],
-    dir: u32,
-    seek: u32,
-    end: usize,
+    list: Span,
     at: usize,
     near: usize,
 ) -> Listed
     requires { ⌜ Tables (now start) (now part) (now owner) ⌝ }
-    ensures { λ r. ⌜ Ran (copyTurn (now (file .entry)) (now (start .entry)) dir seek end (now (part .entry)) (now (owner .entry)) at) r (now (part .exit)) (now (owner .exit)) × NoOther (now (part .entry)) (now (part .exit)) r ⌝ }
+    ensures { λ r. ⌜ Runs (copyStep (before file) (before start) list at) part owner r
+        × NoOther (before part) (after part) r ⌝ }
 {
-    let Header::Good(k) = read_copy(file, at, end) else {
-        return Listed::Fault(12, seek as usize);
-    };
-    let place = k.seekkey as usize;
-    let Row::At(row) = seek_row(start, place, near) else {
-        return Listed::Fault(13, at);
-    };
-    let Piece::Record(l) = read_piece(file, place) else {
-        return Listed::Fault(13, at);
-    };
-    if !same_at(file, at, place, k.keylen as usize) {
-        return Listed::Fault(13, at);
+    match test_copy(file, start, list, at, near) {
+        Entry::Fits(g) => give_part(part, owner, g),
+        Entry::Fault(c, p) => Listed::Fault(c, p),
     }
-    if k.seekpdir != dir as u64 {
-        return Listed::Fault(13, at);
-    }
-    if part[row] != 7 {
-        return Listed::Fault(14, at);
-    }
-    part[row] = mark_of(file, l);
-    owner[row] = dir;
-    let next = at + k.keylen as usize;
-    Listed::Next(next, row)
 }
 
 // Some copies of a keys list, one after the other.
@@ -96,21 +153,20 @@ fn list_copies(
     start: &[u32],
     part: &mut [u32],
     owner: &mut [u32],
-    dir: u32,
-    seek: u32,
-    end: usize,
+    list: Span,
     from: usize,
     count: u32,
 ) -> Listed
     requires { ⌜ Tables (now start) (now part) (now owner) ⌝ }
-    ensures { λ r. ⌜ Ran (copies (now (file .entry)) (now (start .entry)) dir seek end count (now (part .entry)) (now (owner .entry)) from) r (now (part .exit)) (now (owner .exit)) × NoneBelow (now (part .entry)) (now (part .exit)) r ⌝ }
+    ensures { λ r. ⌜ Runs (copiesStep (before file) (before start) list count from) part owner r
+        × NoneBelow (before part) (after part) r ⌝ }
 {
     let mut at = from;
     let mut left = count;
     let mut low = part.len();
     let mut near: usize = 0;
     while 0 < left {
-        let r = one_copy(file, start, part, owner, dir, seek, end, at, near);
+        let r = one_copy(file, start, part, owner, list, at, near);
         let Listed::Next(next, row) = r else {
             return r;
         };
@@ -131,29 +187,56 @@ fn list_data(
     start: &[u32],
     part: &mut [u32],
     owner: &mut [u32],
-    dir: u32,
-    seek: u32,
+    list: Span,
     from: usize,
-    end: usize,
 ) -> Listed
-    requires { ⌜ Tables (now start) (now part) (now owner) × (from ≤ end) × (end ≤ length (now file)) ⌝ }
-    ensures { λ r. ⌜ Ran (dataTurn (now (file .entry)) (now (start .entry)) dir seek from end (now (part .entry)) (now (owner .entry)) (from + 4)) r (now (part .exit)) (now (owner .exit)) × NoneBelow (now (part .entry)) (now (part .exit)) r ⌝ }
+    requires { ⌜ Tables (now start) (now part) (now owner) × (from ≤ list .end) × (list .end ≤ length (now file)) ⌝ }
+    ensures { λ r. ⌜ Runs (dataStep (before file) (before start) list from) part owner r
+        × NoneBelow (before part) (after part) r ⌝ }
 {
-    if end - from < 4 {
-        return Listed::Fault(12, seek as usize);
+    if list.end - from < 4 {
+        return Listed::Fault(12, list.seek as usize);
     }
     let count = be32(file, from);
-    let r = list_copies(file, start, part, owner, dir, seek, end, from + 4, count);
+    let r = list_copies(file, start, part, owner, list, from + 4, count);
     let Listed::Next(at, _) = r else {
         return r;
     };
-    if at != end {
-        return Listed::Fault(12, seek as usize);
+    if at != list.end {
+        return Listed::Fault(12, list.seek as usize);
     }
     r
 }
 
-// The keys list of a directory, by its place and size.
+// The record of a directory's keys list, by its place and size.
+fn find_list(file: &[u8], start: &[u32], dir: u32, head: DirHead) -> Keys
+    requires { ⌜ Rises (now start) ⌝ }
+    ensures { λ r. ⌜ Found (before file) (before start) dir head r ⌝ }
+{
+    let seek = head.seekkeys;
+    let nbytes = head.nbyteskeys;
+    if seek as u64 + nbytes as u64 == 0 {
+        return Keys::Nothing;
+    }
+    let Row::At(row) = find_row(start, seek as usize) else {
+        return Keys::Fault(12, seek as usize);
+    };
+    let place = long(dir);
+    let Data::Held(from, end) = read_list(file, seek as usize, nbytes, place) else {
+        return Keys::Fault(12, seek as usize);
+    };
+    let next = from + 4;
+    let g = Gift {
+        row,
+        part: 4,
+        dir,
+        next,
+        place,
+    };
+    Keys::Held(g, from, end)
+}
+
+// The keys list of a directory.
 pub(crate) fn list_keys(
     file: &[u8],
     start: &[u32],
@@ -163,23 +246,23 @@ pub(crate) fn list_keys(
     head: DirHead,
 ) -> Listed
     requires { ⌜ Tables (now start) (now part) (now owner) ⌝ }
-    ensures { λ r. ⌜ Ran (keysTurn (now (file .entry)) (now (start .entry)) dir head (now (part .entry)) (now (owner .entry))) r (now (part .exit)) (now (owner .exit)) × NoneBelow (now (part .entry)) (now (part .exit)) r ⌝ }
+    ensures { λ r. ⌜ Runs (keysTurn (before file) (before start) dir head) part owner r
+        × NoneBelow (before part) (after part) r ⌝ }
 {
-    let seek = head.seekkeys;
-    let nbytes = head.nbyteskeys;
-    if seek as u64 + nbytes as u64 == 0 {
-        return Listed::Next(0, part.len());
+    match find_list(file, start, dir, head) {
+        Keys::Nothing => Listed::Next(0, part.len()),
+        Keys::Fault(c, p) => Listed::Fault(c, p),
+        Keys::Held(g, from, end) => {
+            let r = give_part(part, owner, g);
+            let Listed::Next(_, _) = r else {
+                return r;
+            };
+            let list = Span {
+                dir,
+                seek: head.seekkeys,
+                end,
+            };
+            list_data(file, start, part, owner, list, from)
+        }
     }
-    let Row::At(row) = find_row(start, seek as usize) else {
-        return Listed::Fault(12, seek as usize);
-    };
-    let Data::Held(from, end) = read_list(file, seek as usize, nbytes, long(dir)) else {
-        return Listed::Fault(12, seek as usize);
-    };
-    if part[row] != 7 {
-        return Listed::Fault(14, long(dir));
-    }
-    part[row] = 4;
-    owner[row] = dir;
-    list_data(file, start, part, owner, dir, seek, from, end)
 }

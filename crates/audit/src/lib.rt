@@ -1,46 +1,34 @@
 // The audit of a whole file.
-ghost use mathlib.Core.Path.{_≡_};
-ghost use Rattle.wire.specs.Answer.{refusal};
-ghost use Rattle.rules.specs.Order.{verdict};
-ghost use Rattle.audit.specs.Tables.{Answers, Filled, Audited, roomOf};
+ghost use Rattle.audit.specs.Examined.{Examines};
+ghost use Rattle.audit.specs.Tables.{Audits};
 use chain::Outcome;
 use chain::walk;
 use fileheader::Opened;
 use fileheader::open;
 use keys::Listed;
-use survey::clear;
 use survey::survey;
+use table::clear;
 use wire::Answer;
+use wire::finished;
 use wire::number::least;
+use wire::refused;
 
 mod chain;
 mod keys;
-mod lists;
 mod rounds;
-mod rows;
 mod survey;
-
-fn refuse(number: u32, place: usize) -> Answer
-    ensures { λ r. ⌜ r ≡ refusal number place ⌝ }
-{
-    Answer {
-        number: number as u64,
-        place: place as u64,
-        count: 0,
-    }
-}
 
 // The verdict; on a pass the tables begin with the rows.
 fn examine(file: &[u8], start: &mut [u32], part: &mut [u32], owner: &mut [u32]) -> Answer
-    ensures { λ r. ⌜ Answers (verdict (now (file .entry)) (roomOf (now (start .entry)) (now (part .entry)) (now (owner .entry)))) r × Filled (verdict (now (file .entry)) (roomOf (now (start .entry)) (now (part .entry)) (now (owner .entry)))) (now (start .exit)) (now (part .exit)) (now (owner .exit)) ⌝ }
+    ensures { λ r. ⌜ Examines file start part owner r ⌝ }
 {
     let head = match open(file) {
         Opened::Good(h) => h,
-        Opened::Refused(c) => return refuse(c, 0),
+        Opened::Refused(c) => return refused(c as u64, 0),
     };
     let n = match walk(file, start) {
         Outcome::Whole(n) => n,
-        Outcome::Fault(c, p) => return refuse(c, p),
+        Outcome::Fault(c, p) => return refused(c as u64, p as u64),
     };
     if least(start.len(), least(part.len(), owner.len())) < n {
         return Answer {
@@ -50,19 +38,15 @@ fn examine(file: &[u8], start: &mut [u32], part: &mut [u32], owner: &mut [u32]) 
         };
     }
     match survey(file, &start[..n], &mut part[..n], &mut owner[..n], head) {
-        Listed::Next(_, _) => Answer {
-            number: 0,
-            place: 0,
-            count: n as u64,
-        },
-        Listed::Fault(c, p) => refuse(c, p),
+        Listed::Next(_, _) => finished(n as u64),
+        Listed::Fault(c, p) => refused(c as u64, p as u64),
     }
 }
 
 // Audits a file. On a pass row i of the tables is start, part and owner of piece i, later entries are 0; on a refusal
 // all entries are 0.
 pub fn audit(file: &[u8], start: &mut [u32], part: &mut [u32], owner: &mut [u32]) -> Answer
-    ensures { λ r. ⌜ Audited (now (file .entry)) (now (start .entry)) (now (part .entry)) (now (owner .entry)) (now (start .exit)) (now (part .exit)) (now (owner .exit)) (r .number) (r .place) (r .count) ⌝ }
+    ensures { λ r. ⌜ Audits file start part owner r ⌝ }
 {
     let a = examine(file, start, part, owner);
     let mut n: usize = 0;

@@ -2,20 +2,21 @@
 ghost use mathlib.Core.Path.{_≡_};
 ghost use Prim.Native.Nat.{_≤_, _<_};
 ghost use lib.ListN.{length, getD};
+ghost use Rattle.wire.specs.Lent.{before, after};
 ghost use Rattle.directory.specs.Dir.{dirOf};
-ghost use Rattle.rules.specs.Turn.{dirTurn, roundTurn, nextRow, rounds};
-ghost use Rattle.audit.specs.Listing.{Ran, NoneBelow, Done, DoneTo, Tables};
+ghost use Rattle.rules.specs.Turn.{dirTurn, roundTurn, nextRow};
+ghost use Rattle.audit.specs.Listing.{Runs, NoneBelow, Done, DoneTo, Tables, roundsStep};
 use crate::keys::Listed;
 use crate::keys::list_keys;
-use crate::rows::long;
 use directory::Dir;
 use directory::read_head;
 use directory::read_sub;
 use fileheader::FileHead;
+use table::long;
 
 // The header of the directory at a place.
 fn read_dir(file: &[u8], head: FileHead, place: u32, parent: u32) -> Dir
-    ensures { λ r. ⌜ r ≡ dirOf (now (file .entry)) head place parent ⌝ }
+    ensures { λ r. ⌜ r ≡ dirOf (before file) head place parent ⌝ }
 {
     if place == 100 {
         return read_head(file, head.nbytesname);
@@ -33,7 +34,8 @@ fn list_dir(
     row: usize,
 ) -> Listed
     requires { ⌜ Tables (now start) (now part) (now owner) × (row < length (now start)) ⌝ }
-    ensures { λ r. ⌜ Ran (dirTurn (now (file .entry)) head (now (start .entry)) row (now (part .entry)) (now (owner .entry))) r (now (part .exit)) (now (owner .exit)) × NoneBelow (now (part .entry)) (now (part .exit)) r ⌝ }
+    ensures { λ r. ⌜ Runs (dirTurn (before file) head (before start) row) part owner r
+        × NoneBelow (before part) (after part) r ⌝ }
 {
     let dir = start[row];
     let Dir::Held(d) = read_dir(file, head, dir, owner[row]) else {
@@ -51,8 +53,9 @@ fn take_dir(
     head: FileHead,
     row: usize,
 ) -> Listed
-    requires { ⌜ Tables (now start) (now part) (now owner) × (row < length (now start)) × Done (now part) row × (8 ≤ getD (now part) row 0) ⌝ }
-    ensures { λ r. ⌜ Ran (roundTurn (now (file .entry)) head (now (start .entry)) row (now (part .entry)) (now (owner .entry))) r (now (part .exit)) (now (owner .exit)) × DoneTo (now (part .exit)) r ⌝ }
+    requires { ⌜ Tables (now start) (now part) (now owner) × (row < length (now start)) × Done (now part) row
+        × (8 ≤ getD (now part) row 0) ⌝ }
+    ensures { λ r. ⌜ Runs (roundTurn (before file) head (before start) row) part owner r × DoneTo (after part) r ⌝ }
 {
     let mark = part[row];
     let r = list_dir(file, start, part, owner, head, row);
@@ -69,7 +72,7 @@ fn take_dir(
 // The lowest row, from a row on, of a directory that was found and is not done.
 fn next_row(part: &[u32], from: usize) -> usize
     requires { ⌜ Done (now part) from ⌝ }
-    ensures { λ r. ⌜ r ≡ nextRow (now (part .entry)) ⌝ }
+    ensures { λ r. ⌜ r ≡ nextRow (before part) ⌝ }
 {
     let mut i = from;
     while i < part.len() {
@@ -90,7 +93,7 @@ pub(crate) fn list_dirs(
     head: FileHead,
 ) -> Listed
     requires { ⌜ Tables (now start) (now part) (now owner) ⌝ }
-    ensures { λ r. ⌜ Ran (rounds (now (file .entry)) head (now (start .entry)) (length (now (start .entry))) (now (part .entry)) (now (owner .entry)) 0) r (now (part .exit)) (now (owner .exit)) ⌝ }
+    ensures { λ r. ⌜ Runs (roundsStep (before file) head (before start)) part owner r ⌝ }
 {
     let mut at: usize = 0;
     let mut low: usize = 0;

@@ -6,19 +6,23 @@ use lib.ListN.{replicate}
 use lib.IntN.{ℤ}
 use Rattle.wire.specs.Number.{bits16}
 use Rattle.wire.specs.declared.Answer.{Answer}
-use Rattle.date.specs.declared.Date.{Date}
+use Rattle.wire.specs.declared.date.Date.{Date}
 use Rattle.key.specs.declared.header.Key.{Key}
 use Rattle.wire.specs.declared.number.Bits.{Bits}
 use Rattle.wire.specs.declared.number.Bits.the-variants.{Held, Wide}
 use Rattle.key.specs.declared.piece.Piece.{Piece}
 use Rattle.key.specs.declared.piece.Piece.the-variants.{Record, Gap, Refused}
-use Rattle.key.specs.declared.header.Fields.{Fields}
+use Rattle.key.specs.declared.writer.Fields.{Fields}
 
 -- an answer: the number returned, and what stands behind the two pointers at exit
 pub record Told (a : Answer) (number place count : ℕ) : Type 0 where
   pub number-is : number ≡ a .number
   pub place-is : place ≡ a .place
   pub count-is : count ≡ a .count
+
+-- these three as an answer
+abbrev pub answer : ℕ → ℕ → ℕ → Answer
+answer number place count = record { number = number; place = place; count = count }
 
 abbrev pub dateOf : ℕ → ℕ → ℕ → ℕ → ℕ → ℕ → Date
 dateOf y m d h n s = record { year = y; month = m; day = d; hour = h; minute = n; second = s }

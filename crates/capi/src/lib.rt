@@ -1,17 +1,18 @@
 // The C interface: thin functions over the proved crates, with the same promises. A slice is passed as a
 // pointer and a length. The number is returned; place and count are written in every case.
 ghost use mathlib.Core.Path.{_≡_};
-ghost use Rattle.date.specs.Date.{packAnswer, unpacked};
+ghost use Rattle.wire.specs.Lent.{before, after};
+ghost use Rattle.wire.specs.Date.{packAnswer, unpacked};
 ghost use lib.ListN.{length};
 ghost use Rattle.streamer.specs.Info.{infoAnswer, infoTable};
 ghost use Rattle.key.specs.Piece.{pieceAt, pieceAnswer};
 ghost use Rattle.key.specs.Writer.{writeAnswer, writeBuffer};
-ghost use Rattle.audit.specs.Tables.{Audited};
-ghost use Rattle.capi.specs.Told.{Told, dateList, pieceList, recordList, dateOf, fieldsOf, storedCycle};
-use date::Date;
-use key::header::Fields;
+ghost use Rattle.audit.specs.Tables.{Audits};
+ghost use Rattle.capi.specs.Told.{Told, answer, dateList, pieceList, recordList, dateOf, fieldsOf, storedCycle};
 use key::header::Key;
 use key::piece::Piece;
+use key::writer::Fields;
+use wire::date::Date;
 use wire::number::Bits;
 
 // Packs a date: 0 and the packed value as count, or 18.
@@ -26,9 +27,10 @@ pub extern "C" fn rootmap_pack_date(
     place: &mut u64,
     count: &mut u64,
 ) -> u64
-    ensures { λ r. ⌜ Told (packAnswer (dateOf year month day hour minute second)) r (now (place .exit)) (now (count .exit)) ⌝ }
+    ensures { λ r. ⌜ Told (packAnswer (dateOf year month day hour minute second))
+        r (now (place .exit)) (now (count .exit)) ⌝ }
 {
-    let a = date::pack_date(Date {
+    let a = wire::date::pack_date(Date {
         year,
         month,
         day,
@@ -46,7 +48,7 @@ pub extern "C" fn rootmap_pack_date(
 pub extern "C" fn rootmap_unpack_date(packed: u32, fields: &mut [u32; 6])
     ensures { λ _. ⌜ now (fields .exit) ≡ dateList (unpacked packed) ⌝ }
 {
-    let d = date::unpack_date(packed);
+    let d = wire::date::unpack_date(packed);
     *fields = [d.year, d.month, d.day, d.hour, d.minute, d.second];
 }
 
@@ -155,7 +157,7 @@ pub extern "C" fn rootmap_write_key(
         seekkey: seek_key,
         seekpdir: seek_pdir,
     };
-    let w = writer::write_key(f, class_name, name, title, buf);
+    let w = key::writer::write_key(f, class_name, name, title, buf);
     *place = w.place;
     *count = w.count;
     w.number
@@ -170,8 +172,9 @@ pub extern "C" fn rootmap_info(
     place: &mut u64,
     count: &mut u64,
 ) -> u64
-    ensures { λ r. ⌜ Told (infoAnswer (now (file .entry)) at (length (now (table .entry)))) r (now (place .exit)) (now (count .exit))
-        × (now (table .exit) ≡ infoTable (now (file .entry)) at (length (now (table .entry)))) ⌝ }
+    ensures { λ r. ⌜ Told (infoAnswer (before file) at (length (before table)))
+        r (now (place .exit)) (now (count .exit))
+        × (after table ≡ infoTable (before file) at (length (before table))) ⌝ }
 {
     let i = streamer::read_info(file, at as usize, table);
     *place = i.place;
@@ -189,7 +192,7 @@ pub extern "C" fn rootmap_audit(
     place: &mut u64,
     count: &mut u64,
 ) -> u64
-    ensures { λ r. ⌜ Audited (now (file .entry)) (now (start .entry)) (now (part .entry)) (now (owner .entry)) (now (start .exit)) (now (part .exit)) (now (owner .exit)) r (now (place .exit)) (now (count .exit)) ⌝ }
+    ensures { λ r. ⌜ Audits file start part owner (answer r (now (place .exit)) (now (count .exit))) ⌝ }
 {
     let v = audit::audit(file, start, part, owner);
     *place = v.place;

@@ -12,8 +12,8 @@ use Rattle.wire.specs.Text.{textAt, textIn, contentOf}
 use Rattle.wire.specs.declared.date.Date.{Date}
 use Rattle.key.specs.Header.{keyAt, namesAt, sumOf, headerIn}
 use Rattle.key.specs.Piece.{sizeAt, recordThere, pieceAt, pieceAnswer}
-use Rattle.layout.specs.File.{openedAs}
-use Rattle.layout.specs.Keys.{copyIn}
+use Rattle.fileheader.specs.File.{openedAs}
+use Rattle.keylist.specs.Keys.{copyIn}
 use Rattle.rules.specs.Order.{verdict, numberOf}
 use Rattle.rules.specs.Row.{starts}
 use Rattle.rules.specs.Turn.{Turn, going, stop, copyTurn}

@@ -55,19 +55,22 @@ plainOr Bad = Bad
 unfoldable pub copyIn : List ℕ → ℕ → ℕ → Header
 copyIn s p end = plainOr (headerIn s p end)
 
--- number, place and count of each case: the free list's refusal is 9 and a keys list's 12, both at the place that was asked for; a
--- copy's is 12 at its list
+-- number, place and count of each case: the free list's refusal is 9 where it was asked for
 abbrev pub freeAnswer : ℕ → Data → Answer
 freeAnswer p (held.Held a end) = done 0
 freeAnswer p held.Bad = refusal 9 p
 
+-- a keys list's is 12 at the list, and so is that of a copy in it
+abbrev pub badList : ℕ → Answer
+badList p = refusal 12 p
+
 abbrev pub listAnswer : ℕ → Data → Answer
 listAnswer p (held.Held a end) = done 0
-listAnswer p held.Bad = refusal 12 p
+listAnswer p held.Bad = badList p
 
 abbrev pub copyAnswer : ℕ → Header → Answer
 copyAnswer list (Good k) = done 0
-copyAnswer list Bad = refusal 12 list
+copyAnswer list Bad = badList list
 
 -- what reading a copy promises, wherever its list stands
 abbrev pub GivesCopy : List ℕ → ℕ → ℕ → Header → Type 0

@@ -1,16 +1,18 @@
 -- What is listed: too long an input, or the audit's report; and how much room it takes.
 use Prim.Native.Nat.{ℕ, _<_, _≤_}
 use mathlib.Core.List.{List}
-use mathlib.Core.Path.{_≡_, sym}
+use mathlib.Core.Path.{_≡_, sym, ap}
 use borrow.Author.Tests.{le-leb, lt-leb}
-use lib.ListN.{length}
+use lib.ListN.{length, replicate, length-replicate}
 use lib.Seq.{length-take-le}
 use Rattle.wire.specs.declared.Answer.{Answer}
-use Rattle.wire.proofs.Answers.{same-answer}
-use Rattle.report.specs.Report.{reportOf}
-use Rattle.report.proofs.Reports.{Wrote, wrote-within}
-use Rattle.audit.specs.Tables.{Audited}
-use Rattle.listing.specs.Listing.{table, reported, tooLong, listingOf, Lists}
+use Rattle.wire.proofs.Dates.{same-answer}
+use Rattle.report.specs.Report.{reportOf, Wrote}
+use Rattle.report.proofs.Reports.{wrote-within}
+use Rattle.wire.specs.Lent.{Lent, before, after}
+use Rattle.rules.specs.Order.{verdict}
+use Rattle.audit.specs.Tables.{told, Audits}
+use Rattle.listing.specs.Listing.{room, reported, tooLong, listingOf, Lists}
 
 module _ (s out : List ℕ) {out′ : List ℕ} {r : Answer} where
   lists : {text : List ℕ} → listingOf s ≡ text → Wrote text out r out′ → Lists s out out′ r
@@ -25,9 +27,15 @@ module _ (s out : List ℕ) {out′ : List ℕ} {r : Answer} where
   unfolding listingOf
   is-long l h = lists (rw (lt-leb (length s) 49152 l)) h
 
-  pub is-listed : (a : Answer) {start part owner : List ℕ}
-      → Audited s table table table start part owner (a .number) (a .place) (a .count)
-      → length s ≤ 49152 → Wrote (reportOf a start part owner (length s)) out r out′ → Lists s out out′ r
-  unfolding listingOf reported
-  is-listed a u l h =
-      lists (rw (le-leb (length s) 49152 l, same-answer (u .theNumber) (u .thePlace) (u .theCount), u .starts, u .parts, u .owners)) h
+pub zeros : length (replicate {A = ℕ} room 0) ≡ room
+zeros = length-replicate {A = ℕ} room 0
+
+pub is-listed : {file start part owner : Lent} {a : Answer} → Audits file start part owner a
+    → length (before start) ≡ room → length (before part) ≡ room → length (before owner) ≡ room → length (before file) ≤ 49152
+    → (out : List ℕ) {out′ : List ℕ} {r : Answer}
+    → Wrote (reportOf a (after start) (after part) (after owner) (length (before file))) out r out′ → Lists (before file) out out′ r
+unfolding listingOf reported
+is-listed {file} {start} {part} {owner} {a} u e f g l out h =
+    let k : told file start part owner ≡ verdict (before file) room = ap (verdict (before file)) (rw (e, f, g)) in
+    lists (before file) out
+    (rw (le-leb (length (before file)) 49152 l, ← k, same-answer (u .number) (u .place) (u .count), u .starts, u .parts, u .owners, e, f, g)) h

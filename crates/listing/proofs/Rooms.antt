@@ -13,12 +13,13 @@ use Rattle.fileheader.specs.File.{openedAs}
 use Rattle.fileheader.specs.declared.FileHead.{FileHead}
 use Rattle.fileheader.specs.declared.Opened.{Opened}
 use Rattle.fileheader.specs.declared.Opened.the-variants.{Good, Refused}
-use Rattle.rules.specs.Order.{Chain, whole, fault, chain, ruled, Verdict, refused, onTurn, onChain, onOpened, verdict, startsOf, tableOf}
+use Rattle.rules.specs.Order.{Chain, whole, fault, chain, ruled, Verdict, refused, onTurn, onChain, onOpened, verdict, startsOf}
 use Rattle.rules.specs.Turn.{Turn, going, stop}
+use Rattle.table.specs.Table.{filled}
 use Rattle.report.specs.Report.{rowsOf, reportOf}
 use Rattle.report.proofs.Listed.{rows-within}
 use Rattle.report.proofs.Reports.{report-short}
-use Rattle.listing.specs.Listing.{table, reported, tooLong, listingOf}
+use Rattle.listing.specs.Listing.{room, reported, tooLong, listingOf}
 
 -- a pass has no more rows than there is room for
 module _ (s : List ℕ) (room : ℕ) where
@@ -42,7 +43,7 @@ module _ (s : List ℕ) (room : ℕ) where
   unfolding verdict
   rows-room = in-opened (openedAs s)
 
-table-length : (xs : List ℕ) → length xs ≤ 1024 → length (tableOf xs table) ≡ 1024
+table-length : (xs : List ℕ) → length xs ≤ 1024 → length (filled xs room) ≡ 1024
 table-length xs l = simp (length-append, length-replicate) (omega arith)
 
 short-enough : (a : Answer) (start part owner : List ℕ) (end : ℕ) → length start ≡ 1024 → length (reportOf a start part owner end) ≤ 73800
@@ -51,7 +52,7 @@ short-enough a start part owner end e =
 
 reported-short : (s : List ℕ) (v : Verdict) → length (startsOf v) ≤ 1024 → length (reported s v) ≤ 73800
 unfolding reported
-reported-short s v l = short-enough _ (tableOf (startsOf v) table) _ _ (length s) (table-length (startsOf v) l)
+reported-short s v l = short-enough _ (filled (startsOf v) room) _ _ (length s) (table-length (startsOf v) l)
 
 pub listing-short : (s : List ℕ) → length (listingOf s) ≤ 73800
 unfolding listingOf

@@ -12,22 +12,12 @@ use lib.Dec.{leb, eqb}
 use lib.ListN.{length, getD, length-append}
 use Rattle.wire.specs.Check.{pick}
 use Rattle.wire.specs.declared.Answer.{Answer}
-use Rattle.wire.proofs.Checks.{below-or}
+use Rattle.wire.proofs.Numbers.{lesser-within}
 use Rattle.report.specs.Put.{Room, Put}
 use Rattle.wire.specs.Number.{lesser}
 use Rattle.report.specs.Report.{nextPlace, line, row, lines, rowsOf}
 use Rattle.report.proofs.Puts.{put-nothing, put-then, put-as}
 use Rattle.report.proofs.Words.{line-short}
-
-left-lesser : (a b : ℕ) → a ≤ b → a ≡ lesser a b
-left-lesser a b l = rw (le-leb a b l)
-
-right-lesser : (a b : ℕ) → b < a → b ≡ lesser a b
-right-lesser a b l = rw (lt-leb a b l)
-
-lesser-within : (a b : ℕ) → (lesser a b ≤ a) × (lesser a b ≤ b)
-lesser-within a b =
-    ⊎-elim (λ (l : b < a). rw (← (right-lesser a b l)) (omega arith)) (λ (l : a ≤ b). rw (← (left-lesser a b l)) (omega arith)) (below-or b a)
 
 module _ (a : Answer) (start part owner : List ℕ) where
   pub no-rows : (a .number ≡ 0 → ⊥) → 0 ≡ rowsOf a start part owner

@@ -13,25 +13,22 @@ use Rattle.wire.specs.Patch.{patch}
 use Rattle.wire.specs.declared.Answer.{Answer}
 use Rattle.wire.proofs.Patches.{length-patch}
 use Rattle.report.specs.Put.{Room, Put}
-use Rattle.report.specs.Report.{heading, lines, rowsOf, reportOf, putAnswer, putBuffer}
+use Rattle.report.specs.Report.{heading, lines, rowsOf, reportOf, putAnswer, putBuffer, Wrote}
 use Rattle.report.proofs.Listed.{lines-short}
 use Rattle.report.proofs.Puts.{put-then}
 use Rattle.report.proofs.Words.{heading-short}
 
--- the answer r and the buffer w at exit, of a text that is to be written at the front of a buffer
-abbrev pub Wrote : List ℕ → List ℕ → Answer → List ℕ → Type 0
-Wrote text out r w = (r ≡ putAnswer text out) × (w ≡ putBuffer text out)
-
+-- a text that does not fit, and one that does
 pub no-room : (text out : List ℕ) {r : Answer} → length out < length text → r ≡ refusal 17 0 → Wrote text out r out
 unfolding putAnswer putBuffer
 no-room text out l e = let f = lt-leb (length text) (length out) l in (e ∙ rw f, rw f)
 
-pub in-room : (text out : List ℕ) {w : List ℕ} {r : ℕ} → Put out 0 text w r → Wrote text out (done r) w
+pub in-room : (text out : List ℕ) {w : List ℕ} {r : ℕ} {a : Answer} → Put out 0 text w r → a ≡ done r → Wrote text out a w
 unfolding putAnswer putBuffer
-in-room text out {w} {r} p =
+in-room text out {w} {r} {a} p f =
     let e : r ≡ length text = omega (arith, p .next) in
     let l = le-leb (length text) (length out) (omega (arith, p .room)) in
-    (rw l (ap (λ (k : ℕ). done k) e), rw l (p .text))
+    (rw (f, l) (ap (λ (k : ℕ). done k) e), rw l (p .text))
 
 -- the bytes counted stand in the buffer
 pub wrote-within : (text out : List ℕ) {r : Answer} {w : List ℕ} → Wrote text out r w → r .count ≤ length w
@@ -53,14 +50,16 @@ module _ (a : Answer) (start part owner : List ℕ) (end : ℕ) (out : List ℕ)
   whole = rw (← rows)
 
   pub report-room : t ≡ true → Room out 0 (heading a ++ lines start part owner n end n)
-  report-room e = let l = leb-true (h + length (lines start part owner n end n)) (length out) (sym test ∙ e) in record { fits = rw length-append (omega (arith, first, l)) }
+  report-room e = let l = leb-true (h + length (lines start part owner n end n)) (length out) (sym test ∙ e) in record
+      { fits = rw length-append (omega (arith, first, l)) }
 
-  pub report-put : {w v : List ℕ} {at r : ℕ} → Put out 0 (heading a) w at → Put w at (lines start part owner n end n) v r
-      → Wrote (reportOf a start part owner end) out (done r) v
-  report-put p q = rw whole (in-room _ out (put-then p q))
+  pub report-put : {w v : List ℕ} {at r : ℕ} {b : Answer} → Put out 0 (heading a) w at → Put w at (lines start part owner n end n) v r
+      → b ≡ done r → Wrote (reportOf a start part owner end) out b v
+  report-put p q e = rw whole (in-room _ out (put-then p q) e)
 
   pub report-long : {r : Answer} → t ≡ false → r ≡ refusal 17 0 → Wrote (reportOf a start part owner end) out r out
-  report-long e g = let l = leb-false (h + length (lines start part owner n end n)) (length out) (sym test ∙ e) in rw whole (no-room _ out (rw length-append (omega (arith, first, l))) g)
+  report-long e g = let l = leb-false (h + length (lines start part owner n end n)) (length out) (sym test ∙ e) in rw whole
+      (no-room _ out (rw length-append (omega (arith, first, l))) g)
 
 -- 72 bytes a line are room enough
 pub report-short : (a : Answer) (start part owner : List ℕ) (end : ℕ)

@@ -1,6 +1,7 @@
 -- The text of the list program: document 01, "The list program". Text is a list of ASCII codes.
 use Prim.Native.Nat.{ℕ, zero, suc, _+_, _-_, _/_, _%_}
 use mathlib.Core.List.{List, [], _∷_, _++_}
+use mathlib.Core.Path.{_≡_}
 use lib.ListN.{length, getD}
 use lib.Dec.{leb, ltb, eqb}
 use Rattle.wire.specs.Answer.{done, refusal}
@@ -94,3 +95,7 @@ putAnswer text out = pick (leb (length text) (length out)) (done (length text)) 
 -- the buffer at exit: the text, then what stood there; on 17 unchanged
 unfoldable pub putBuffer : List ℕ → List ℕ → List ℕ
 putBuffer text out = pick (leb (length text) (length out)) (patch out 0 text) out
+
+-- what a writer promises
+abbrev pub Wrote : List ℕ → List ℕ → Answer → List ℕ → Type 0
+Wrote text out r out′ = (r ≡ putAnswer text out) × (out′ ≡ putBuffer text out)

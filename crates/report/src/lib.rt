@@ -1,14 +1,16 @@
 // The text of the list program: an audit's answer and tables in words.
 ghost use mathlib.Core.Path.{_≡_};
 ghost use lib.ListN.{length};
-ghost use Rattle.wire.specs.Answer.{refusal};
-ghost use Rattle.report.specs.Report.{heading, rowsOf, reportOf, putAnswer, putBuffer};
+ghost use Rattle.wire.specs.Lent.{before, after};
+ghost use Rattle.report.specs.Report.{heading, rowsOf, reportOf, Wrote};
 use field::put_text;
 use line::put_heading;
 use rows::lines_fit;
 use rows::put_lines;
 use wire::Answer;
+use wire::finished;
 use wire::number::least;
+use wire::refused;
 
 mod field;
 mod line;
@@ -16,7 +18,7 @@ mod rows;
 
 // How many rows are listed.
 fn count_rows(a: Answer, start: &[u32], part: &[u32], owner: &[u32]) -> usize
-    ensures { λ r. ⌜ r ≡ rowsOf a (now (start .entry)) (now (part .entry)) (now (owner .entry)) ⌝ }
+    ensures { λ r. ⌜ r ≡ rowsOf a (before start) (before part) (before owner) ⌝ }
 {
     if a.number != 0 {
         return 0;
@@ -35,31 +37,16 @@ fn heading_length(a: Answer) -> usize
     put_heading(&mut space, a)
 }
 
-fn no_room() -> Answer
-    ensures { λ r. ⌜ r ≡ refusal 17 0 ⌝ }
-{
-    Answer {
-        number: 17,
-        place: 0,
-        count: 0,
-    }
-}
-
 // Writes a text at the front of a buffer, and counts its bytes. 17, and nothing is written, where the buffer cannot
 // hold it.
 pub fn write_text(text: &[u8], out: &mut [u8]) -> Answer
-    ensures { λ r. ⌜ (r ≡ putAnswer (now (text .entry)) (now (out .entry)))
-        × (now (out .exit) ≡ putBuffer (now (text .entry)) (now (out .entry))) ⌝ }
+    ensures { λ r. ⌜ Wrote (before text) (before out) r (after out) ⌝ }
 {
     if out.len() < text.len() {
-        return no_room();
+        return refused(17, 0);
     }
     let n = put_text(out, 0, text);
-    Answer {
-        number: 0,
-        place: 0,
-        count: n as u64,
-    }
+    finished(n as u64)
 }
 
 // Writes the report of an audit's answer and tables, for a file of end bytes, at the front of a buffer, and counts its
@@ -72,18 +59,13 @@ pub fn write_report(
     end: usize,
     out: &mut [u8],
 ) -> Answer
-    ensures { λ r. ⌜ (r ≡ putAnswer (reportOf a (now (start .entry)) (now (part .entry)) (now (owner .entry)) end) (now (out .entry)))
-        × (now (out .exit) ≡ putBuffer (reportOf a (now (start .entry)) (now (part .entry)) (now (owner .entry)) end) (now (out .entry))) ⌝ }
+    ensures { λ r. ⌜ Wrote (reportOf a (before start) (before part) (before owner) end) (before out) r (after out) ⌝ }
 {
     let n = count_rows(a, start, part, owner);
     if lines_fit(start, part, owner, n, end, heading_length(a), out.len()) {
         let at = put_heading(out, a);
         let stop = put_lines(out, at, start, part, owner, n, end);
-        return Answer {
-            number: 0,
-            place: 0,
-            count: stop as u64,
-        };
+        return finished(stop as u64);
     }
-    no_room()
+    refused(17, 0)
 }

@@ -1,4 +1,5 @@
 // The lines of a report, written into a buffer at a place that has room for them.
+ghost use Rattle.wire.specs.Lent.{before, after};
 ghost use Rattle.report.specs.Put.{Room, Put};
 ghost use Rattle.report.specs.Report.{spaced, partName, line, heading};
 use crate::field::put_field;
@@ -8,7 +9,7 @@ use wire::Answer;
 // Writes a part's name and a space.
 fn put_name(out: &mut [u8], at: usize, part: u32) -> usize
     requires { ⌜ Room (now out) at (spaced (partName part)) ⌝ }
-    ensures { λ r. ⌜ Put (now (out .entry)) at (spaced (partName part)) (now (out .exit)) r ⌝ }
+    ensures { λ r. ⌜ Put (before out) at (spaced (partName part)) (after out) r ⌝ }
 {
     if part < 1 {
         return put_text(out, at, b"gap ");
@@ -47,7 +48,7 @@ pub(crate) fn put_line(
     owner: u64,
 ) -> usize
     requires { ⌜ Room (now out) at (line place size part owner) ⌝ }
-    ensures { λ r. ⌜ Put (now (out .entry)) at (line place size part owner) (now (out .exit)) r ⌝ }
+    ensures { λ r. ⌜ Put (before out) at (line place size part owner) (after out) r ⌝ }
 {
     let second = put_field(out, at, place, 32);
     let third = put_field(out, second, size, 32);
@@ -58,7 +59,7 @@ pub(crate) fn put_line(
 // Writes the first line, at the front.
 pub(crate) fn put_heading(out: &mut [u8], a: Answer) -> usize
     requires { ⌜ Room (now out) 0 (heading a) ⌝ }
-    ensures { λ r. ⌜ Put (now (out .entry)) 0 (heading a) (now (out .exit)) r ⌝ }
+    ensures { λ r. ⌜ Put (before out) 0 (heading a) (after out) r ⌝ }
 {
     let number = a.number;
     let place = a.place;

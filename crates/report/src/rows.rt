@@ -3,15 +3,11 @@ ghost use mathlib.Core.Path.{_≡_};
 ghost use Prim.Native.Nat.{_+_, _-_, _≤_, _<_};
 ghost use lib.Dec.{leb};
 ghost use lib.ListN.{length};
+ghost use Rattle.wire.specs.Lent.{before, after};
 ghost use Rattle.report.specs.Put.{Room, Put};
 ghost use Rattle.report.specs.Report.{nextPlace, row, lines};
 use crate::line::put_line;
-
-fn long(v: u32) -> u64
-    ensures { λ r. ⌜ r ≡ v ⌝ }
-{
-    v as u64
-}
+use table::long;
 
 fn difference(a: u64, b: u64) -> u64
     ensures { λ r. ⌜ r ≡ a - b ⌝ }
@@ -25,10 +21,10 @@ fn difference(a: u64, b: u64) -> u64
 // Where the piece of a row ends.
 fn next_place(start: &[u32], n: usize, end: usize, i: usize) -> u64
     requires { ⌜ (i < n) × (n ≤ length (now start)) ⌝ }
-    ensures { λ r. ⌜ r ≡ nextPlace (now (start .entry)) n end i ⌝ }
+    ensures { λ r. ⌜ r ≡ nextPlace (before start) n end i ⌝ }
 {
     if i + 1 < n {
-        return long(start[i + 1]);
+        return long(start[i + 1]) as u64;
     }
     end as u64
 }
@@ -46,18 +42,18 @@ fn put_row(
 ) -> usize
     requires { ⌜ (i < n) × (n ≤ length (now start)) × (n ≤ length (now part)) × (n ≤ length (now owner))
         × Room (now out) at (row (now start) (now part) (now owner) n end i) ⌝ }
-    ensures { λ r. ⌜ Put (now (out .entry)) at (row (now (start .entry)) (now (part .entry)) (now (owner .entry)) n end i)
-        (now (out .exit)) r ⌝ }
+    ensures { λ r. ⌜ Put (before out) at (row (before start) (before part) (before owner) n end i)
+        (after out) r ⌝ }
 {
-    let place = long(start[i]);
+    let place = long(start[i]) as u64;
     let size = difference(next_place(start, n, end, i), place);
-    put_line(out, at, place, size, part[i], long(owner[i]))
+    put_line(out, at, place, size, part[i], long(owner[i]) as u64)
 }
 
 // The length of the line of a row.
 fn row_length(start: &[u32], part: &[u32], owner: &[u32], n: usize, end: usize, i: usize) -> usize
     requires { ⌜ (i < n) × (n ≤ length (now start)) × (n ≤ length (now part)) × (n ≤ length (now owner)) ⌝ }
-    ensures { λ r. ⌜ r ≡ length (row (now (start .entry)) (now (part .entry)) (now (owner .entry)) n end i) ⌝ }
+    ensures { λ r. ⌜ r ≡ length (row (before start) (before part) (before owner) n end i) ⌝ }
 {
     let mut space = [0u8; 72];
     put_row(&mut space, 0, start, part, owner, n, end, i)
@@ -74,7 +70,7 @@ pub(crate) fn lines_fit(
     room: usize,
 ) -> bool
     requires { ⌜ (n ≤ length (now start)) × (n ≤ length (now part)) × (n ≤ length (now owner)) ⌝ }
-    ensures { λ r. ⌜ r ≡ leb (first + length (lines (now (start .entry)) (now (part .entry)) (now (owner .entry)) n end n)) room ⌝ }
+    ensures { λ r. ⌜ r ≡ leb (first + length (lines (before start) (before part) (before owner) n end n)) room ⌝ }
 {
     if room < first {
         return false;
@@ -104,8 +100,8 @@ pub(crate) fn put_lines(
 ) -> usize
     requires { ⌜ (n ≤ length (now start)) × (n ≤ length (now part)) × (n ≤ length (now owner))
         × Room (now out) first (lines (now start) (now part) (now owner) n end n) ⌝ }
-    ensures { λ r. ⌜ Put (now (out .entry)) first (lines (now (start .entry)) (now (part .entry)) (now (owner .entry)) n end n)
-        (now (out .exit)) r ⌝ }
+    ensures { λ r. ⌜ Put (before out) first (lines (before start) (before part) (before owner) n end n)
+        (after out) r ⌝ }
 {
     let mut at = first;
     let mut i: usize = 0;

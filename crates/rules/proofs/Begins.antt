@@ -52,7 +52,8 @@ module _ (s : List ℕ) (h : FileHead) (qs : List ℕ) (p : Partition s 100 (len
     alone = λ i l e. zeros-at (length qs) i;
     back = λ i l b n. absurd (n (is-first i l ∙ b));
     done = λ i l d. absurd (early-mark (firstPart s h (getD qs i 0)) (first-early s h (getD qs i 0)) .0 (subst Directory (is-first i l) d));
-    shape = λ i l k. inl (is-first i l ∙ early-mark (firstPart s h (getD qs i 0)) (first-early s h (getD qs i 0)) .1 (subst (λ (x : ℕ). 8 ≤ x) (is-first i l) k));
+    shape = λ i l k. inl (is-first i l ∙ early-mark (firstPart s h (getD qs i 0)) (first-early s h (getD qs i 0)) .1
+        (subst (λ (x : ℕ). 8 ≤ x) (is-first i l) k));
     leads = λ i l b n. absurd (n (is-first i l ∙ b));
   }
 

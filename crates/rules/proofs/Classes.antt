@@ -1,13 +1,11 @@
 -- Head, free list and info are records of their classes, and three different ones.
 use Prim.Native.Nat.{ℕ, _+_}
-use mathlib.Core.Bool.{Bool, true, false, _&&_}
+use mathlib.Core.Bool.{true, false}
 use mathlib.Core.List.{List, [], _∷_}
 use mathlib.Core.Path.{_≡_, refl, sym, ap, _∙_, subst}
 use native.Mathlib.Omega.{arith}
-use borrow.Author.Tests.{eqb-false}
-use lib.Dec.{eqb}
 use lib.ListN.{length, getD}
-use Rattle.wire.specs.Check.{le, eq, yes, pick}
+use Rattle.wire.specs.Check.{le, eq, yes}
 use Rattle.wire.specs.Equal.{eqBytes}
 use Rattle.wire.specs.Text.{contentOf}
 use Rattle.wire.specs.declared.text.Text.{Text}
@@ -17,25 +15,24 @@ use Rattle.key.specs.Piece.{pieceAt}
 use Rattle.key.specs.declared.header.Key.{Key}
 use Rattle.key.specs.declared.piece.Piece.the-variants.{Record}
 use Rattle.directory.specs.Dir.{headIn}
-use Rattle.keylist.specs.Keys.{freeIn, infoIn}
+use Rattle.keylist.specs.Keys.{infoIn}
 use Rattle.directory.proofs.Headings.{from-head}
 use Rattle.keylist.proofs.Records.{from-free, from-info}
 use Rattle.wire.specs.Name.{tFile, tList}
 use Rattle.record.specs.Name.{named}
-use Rattle.keylist.specs.declared.Data.{Data}
-use Rattle.keylist.specs.declared.Data.the-variants as span
 use Rattle.directory.specs.declared.Dir.the-variants as dir
 use Rattle.directory.specs.declared.DirHead.{DirHead}
 use Rattle.fileheader.specs.declared.FileHead.{FileHead}
-use Rattle.rules.specs.Free.{gapOf, freeData, freeHolds, infoHolds}
+use Rattle.rules.specs.Free.{isGap, Free, infoHolds}
 use Rattle.rules.specs.Row.{starts}
+use Rattle.rules.proofs.Frees.{and-both}
 
 -- a record whose class is this name
 abbrev pub Named : List ℕ → ℕ → List ℕ → Type 0
 Named s p name = (k : Key) × (pieceAt s p ≡ Record k) × (named s (k .class) name ≡ true)
 
-pub no-gap : (s : List ℕ) (p : ℕ) (name : List ℕ) → Named s p name → gapOf (pieceAt s p) ≡ 0
-no-gap s p name n = ap gapOf (n .1)
+pub no-gap : (s : List ℕ) (p : ℕ) (name : List ℕ) → Named s p name → isGap (pieceAt s p) ≡ true → ⊥
+no-gap s p name n e = false-true (sym (ap isGap (n .1)) ∙ e)
 
 content : (s : List ℕ) (t : Text) (name : List ℕ) → named s t name ≡ true → contentOf s t ≡ name
 unfolding named
@@ -62,25 +59,8 @@ pub head-file : (s : List ℕ) (n : ℕ) (dh : DirHead) → headIn s n ≡ dir.H
 head-file s n dh e = let r = from-head s n (sym e) in (r .0, r .1, r .2 .0)
 
 -- the free list
-and-both : (a b : Bool) → (a && b) ≡ true → (a ≡ true) × (b ≡ true)
-and-both true b e = (refl, e)
-and-both false b e = false-true e
-
-data-held : (s qs : List ℕ) (n p size : ℕ) (x : Data) → freeIn s p size ≡ x → freeData s qs n x ≡ true → Named s p tFile
-data-held s qs n p size (span.Held a end) e f = let d = from-free s p size (sym e) in (d .key, d .is, d .passed .0)
-data-held s qs n p size span.Bad e f = false-true f
-
-pub free-file : (s qs : List ℕ) (h : FileHead) → freeHolds s qs h ≡ true → (h .seekfree ≡ 100 → ⊥) × Named s (h .seekfree) tFile
-unfolding freeHolds
-free-file s qs h e = go (eqb (h .seekfree) 100) refl e
-  where
-    go : (b : Bool) → eqb (h .seekfree) 100 ≡ b
-        → pick b false (starts qs (h .seekfree) && freeData s qs (h .nfree) (freeIn s (h .seekfree) (h .nbytesfree))) ≡ true
-        → (h .seekfree ≡ 100 → ⊥) × Named s (h .seekfree) tFile
-    go true f e = false-true e
-    go false f e =
-        let x = and-both (starts qs (h .seekfree)) (freeData s qs (h .nfree) (freeIn s (h .seekfree) (h .nbytesfree))) e in
-        (eqb-false (h .seekfree) 100 f, data-held s qs (h .nfree) (h .seekfree) (h .nbytesfree) (freeIn s (h .seekfree) (h .nbytesfree)) refl (x .1))
+pub free-file : (s qs : List ℕ) (h : FileHead) → Free s qs h → Named s (h .seekfree) tFile
+free-file s qs h f = let d = from-free s (h .seekfree) (h .nbytesfree) (sym (f .held)) in (d .key, d .is, d .passed .0)
 
 -- the info record
 pub info-list : (s qs : List ℕ) (h : FileHead) → infoHolds s qs h ≡ true → (h .seekinfo ≡ 0 → ⊥) → Named s (h .seekinfo) tList

@@ -25,6 +25,7 @@ use Rattle.rules.specs.Turn.{Turn, going, stop, rounds, firstPart, first
 use Rattle.rules.proofs.Begins.{begins, begin-agrees, length-map}
 use Rattle.rules.proofs.Chains.{chain-whole, whole-partition, fault-number, opened-number, opened-long}
 use Rattle.rules.proofs.Counts.{count, count-most}
+use Rattle.rules.proofs.Frees.{free-holds, free-there}
 use Rattle.rules.proofs.FromRules.{as-state, all-known}
 use Rattle.rules.proofs.Numbers.{Late, late}
 use Rattle.rules.proofs.Partitions.{one-partition}
@@ -43,7 +44,7 @@ module _ (s : List ℕ) (h : FileHead) (qs : List ℕ) (p : Partition s 100 (len
       let a = tested (freeHolds s qs h) (pick (infoHolds s qs h) t (stop 10 (h .seekinfo))) 9 (h .seekfree) f in
       let b = tested (infoHolds s qs h) t 10 (h .seekinfo) (a .1) in
       let w = rounds-went s h qs p (length qs) (firstParts s h qs) (replicate (length qs) 0) ps os 0 c (begins s h qs p) enough (b .1) in
-      meets s h qs p ps os (w .0) (w .1) dh e (a .0) (b .0)
+      meets s h qs p ps os (w .0) (w .1) dh e (free-there s qs h (a .0)) (b .0)
   went-by dir.Bad ps os c e f = stopped (sym f)
 
   pub ruled-went : (ps os : List ℕ) (c : ℕ) → ruled s h qs ≡ going ps os c → Rules s h qs ps os
@@ -55,8 +56,9 @@ module _ (s : List ℕ) (h : FileHead) (qs : List ℕ) (p : Partition s 100 (len
   ruled-goes ps os r =
       let w = as-state s h qs p ps os r in
       let k = all-known s h qs p ps os r in
-      let g = rounds-go s h qs p ps os w k (length qs) (firstParts s h qs) (replicate (length qs) 0) 0 (begins s h qs p) (begin-agrees s h qs p ps os w k) enough in
-      (g .0, rw (r .head .1, r .free, r .info) (g .1))
+      let g = rounds-go s h qs p ps os w k (length qs) (firstParts s h qs) (replicate (length qs) 0) 0 (begins s h qs p)
+      (begin-agrees s h qs p ps os w k) enough in
+      (g .0, rw (r .headRule .1, free-holds s qs h (r .freeRule), r .infoRule) (g .1))
 
 -- the five kinds of verdict
 pub data View (s : List ℕ) (room : ℕ) : Type 0 where

@@ -10,14 +10,14 @@ use Rattle.wire.specs.Check.{All, pick}
 use Rattle.wire.specs.Number.{numAt}
 use Rattle.key.specs.Piece.{pieceAt}
 use Rattle.key.specs.declared.header.Key.{Key}
+use Rattle.directory.specs.Dir.{noKeys}
 use Rattle.directory.specs.declared.DirHead.{DirHead}
 use Rattle.fileheader.specs.declared.FileHead.{FileHead}
 use Rattle.rules.specs.Entry.{dirClass}
 use Rattle.rules.specs.Partition.{Partition}
-use Rattle.rules.specs.Row.{starts, rowOf}
+use Rattle.rules.specs.Row.{starts}
 use Rattle.rules.specs.Rules.{Iff, Copies, Entries, Filled}
-use Rattle.directory.specs.Dir.{noKeys}
-use Rattle.rules.specs.Turn.{listedMark, firstPart}
+use Rattle.rules.specs.Turn.{rowOf, listedMark, firstPart}
 use Rattle.rules.proofs.Fixed.{Place, head, free, info, gap, other, place}
 use Rattle.rules.proofs.Graph.{Graph, Given, Early}
 use Rattle.rules.proofs.Items.{Item, item, Has}

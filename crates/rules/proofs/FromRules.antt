@@ -5,17 +5,17 @@ use mathlib.Core.Logic.{_⊎_, inl, inr, ⊎-elim}
 use mathlib.Core.Path.{_≡_, refl, sym, ap, _∙_, subst}
 use native.Mathlib.Omega.{arith}
 use lib.ListN.{length, getD}
+use Rattle.wire.proofs.Checks.{false-true}
 use Rattle.wire.specs.Check.{All}
 use Rattle.key.specs.declared.header.Key.{Key}
+use Rattle.directory.specs.Dir.{dirOf, noKeys}
 use Rattle.directory.specs.declared.Dir.the-variants as dir
 use Rattle.directory.specs.declared.DirHead.{DirHead}
 use Rattle.fileheader.specs.declared.FileHead.{FileHead}
 use Rattle.rules.specs.Entry.{listedPart}
 use Rattle.rules.specs.Partition.{Partition}
-use Rattle.rules.specs.Row.{rowOf}
 use Rattle.rules.specs.Rules.{Rules, In, Directory, Listed, Leads, root, up, DirectoryAt, KeysAre, Filled, places}
-use Rattle.directory.specs.Dir.{noKeys, dirOf}
-use Rattle.rules.specs.Turn.{firstPart, listedMark}
+use Rattle.rules.specs.Turn.{rowOf, firstPart, listedMark}
 use Rattle.rules.proofs.Directories.{graph, below-first}
 use Rattle.rules.proofs.Fixed.{Place, head, free, info, gap, other, place}
 use Rattle.rules.proofs.Graph.{State, Back, Done, final, final-low, final-high}
@@ -40,7 +40,7 @@ module _ (s : List ℕ) (h : FileHead) (qs : List ℕ) (p : Partition s 100 (len
   fixed-at i l n (head a b) = set-early i 1 9 l (r .headPart i l .1 a) (omega arith) b (final-high 9 (omega arith))
   fixed-at i l n (free z a b) = set-early i 2 2 l (r .freePart i l .1 a) (omega arith) b (final-low 2 (omega arith))
   fixed-at i l n (info y z a b) = set-early i 3 3 l (r .infoPart i l .1 a) (omega arith) b (final-low 3 (omega arith))
-  fixed-at i l n (gap x y z a b) = set-early i 0 0 l (r .gap i l .1 a) (omega arith) b (final-low 0 (omega arith))
+  fixed-at i l n (gap x y z a b) = set-early i 0 0 l (r .gapPart i l .1 a) (omega arith) b (final-low 0 (omega arith))
   fixed-at i l n (other x y z a b) = absurd (n b)
 
   -- a row that a directory was given is none of them
@@ -48,7 +48,7 @@ module _ (s : List ℕ) (h : FileHead) (qs : List ℕ) (p : Partition s 100 (len
   loose-at i l k (head a b) = absurd (omega (arith, r .headPart i l .1 a))
   loose-at i l k (free z a b) = absurd (omega (arith, r .freePart i l .1 a))
   loose-at i l k (info y z a b) = absurd (omega (arith, r .infoPart i l .1 a))
-  loose-at i l k (gap x y z a b) = absurd (omega (arith, r .gap i l .1 a))
+  loose-at i l k (gap x y z a b) = absurd (omega (arith, r .gapPart i l .1 a))
   loose-at i l k (other x y z a b) = b
 
   -- and the other way
@@ -57,7 +57,9 @@ module _ (s : List ℕ) (h : FileHead) (qs : List ℕ) (p : Partition s 100 (len
   four-up i l e (free z a b) = absurd (omega arith)
   four-up i l e (info y z a b) = absurd (omega arith)
   four-up i l e (gap x y z a b) = absurd (omega arith)
-  four-up i l e (other x y z a b) = big (getD gs i 0) (λ f. r .gap i l .0 f a) (λ f. x (r .headPart i l .0 f)) (λ f. y (r .freePart i l .0 f)) (λ f. z (r .infoPart i l .0 f))
+  four-up i l e (other x y z a b) =
+      big (getD gs i 0) (λ f. false-true (sym a ∙ r .gapPart i l .0 f)) (λ f. x (r .headPart i l .0 f)) (λ f. y (r .freePart i l .0 f))
+      (λ f. z (r .infoPart i l .0 f))
     where
       big : (k : ℕ) → (k ≡ 0 → ⊥) → (k ≡ 1 → ⊥) → (k ≡ 2 → ⊥) → (k ≡ 3 → ⊥) → 4 ≤ k
       big k a b c d = omega arith
@@ -80,14 +82,14 @@ module _ (s : List ℕ) (h : FileHead) (qs : List ℕ) (p : Partition s 100 (len
 
   stands : (j : ℕ) (dh : DirHead) → j < length qs → Directory (getD gs j 0) → dirOf s h (getD qs j 0) (getD hs j 0) ≡ dir.Held dh
       → At (getD qs j 0) dh
-  stands j dh l d e = record { row = j; within = l; here = refl; part = d; header = e }
+  stands j dh l d e = record { row = j; within = l; here = refl; is = d; header = e }
 
   head-of : (d : ℕ) (dh : DirHead) → (a : At d dh) → dirOf s h (getD qs (a .row) 0) (getD hs (a .row) 0) ≡ dir.Held dh
   head-of d dh a = subst (λ (x : ℕ). dirOf s h x (getD hs (a .row) 0) ≡ dir.Held dh) (sym (a .here)) (a .header)
 
   keys-of : (d : ℕ) (dh : DirHead) → (a : At d dh) → (ks : List Key) × KeysAre s qs (getD qs (a .row) 0) dh ks
   keys-of d dh a =
-      let x = r .directory (a .row) (a .within) (a .part) in
+      let x = r .directory (a .row) (a .within) (a .is) in
       let y = head-of d dh a in
       let z = x .2 in
       let e : x .0 ≡ dh = cc in
@@ -103,7 +105,7 @@ module _ (s : List ℕ) (h : FileHead) (qs : List ℕ) (p : Partition s 100 (len
     back-to dh ks m a f x e = record {
       row = a .row;
       inside = a .within;
-      part = a .part;
+      part = a .is;
       owner = sym (a .here);
       items = item (rowOf qs (dh .seekkeys)) 4 ∷ copied s qs ks;
       says = record { dirhead = dh; keys = ks; header = head-of (getD hs i 0) dh a; items = inr (f, refl) };
@@ -114,7 +116,7 @@ module _ (s : List ℕ) (h : FileHead) (qs : List ℕ) (p : Partition s 100 (len
 
     list-back : getD gs i 0 ≡ 4 → B i
     list-back e =
-        let k = r .keys i (getD hs i 0) l .0 (e, refl) in
+        let k = r .keysPart i (getD hs i 0) l .0 (e, refl) in
         let ks = keys-of (getD hs i 0) (k .0) (k .1) in
         ⊎-elim
         (λ (x : All (noKeys (k .0)) × (ks .0 ≡ [])). absurd (omega (arith, x .0 .0, k .2, below-first s h qs p i l)))
@@ -125,15 +127,17 @@ module _ (s : List ℕ) (h : FileHead) (qs : List ℕ) (p : Partition s 100 (len
 
     copy-back : Listed (getD gs i 0) → B i
     copy-back e =
-        let k = r .listed i (getD hs i 0) l .0 (e, refl) in
+        let k = r .copied i (getD hs i 0) l .0 (e, refl) in
         ⊎-elim
         (λ (x : All (noKeys (k .0)) × (k .1 ≡ [])). absurd (subst (λ (z : List Key). In (getD qs i 0) (places z)) (x .1) (k .4)))
         (λ (f : Filled s qs (getD hs i 0) (k .0) (k .1)).
         let g = subst (λ (d : ℕ). Filled s qs d (k .0) (k .1)) (sym (k .2 .here)) f in
-        let n = row-is qs (rises s 100 qs (length s) p) i (getD qs i 0) l (entry-starts s qs (getD hs i 0) (f .from + 4) (getD qs i 0) (k .1) (f .entries) (k .4)) refl in
+        let n = row-is qs (rises s 100 qs (length s) p) i (getD qs i 0) l
+        (entry-starts s qs (getD hs i 0) (f .from + 4) (getD qs i 0) (k .1) (f .entries) (k .4)) refl in
         back-to (k .0) (k .1) (listedMark s (getD qs i 0)) (k .2) g
         (inr (subst (λ (z : ℕ). Has z (listedMark s (getD qs i 0)) (copied s qs (k .1))) (sym n) (in-has s qs (getD qs i 0) (k .1) (k .4))))
-        (ap final (r .class i l e) ∙ final-low (listedPart s (getD qs i 0)) (low (listedPart s (getD qs i 0)) (subst Listed (r .class i l e) e)) ∙ sym (mark-part s (getD qs i 0))))
+        (ap final (r .class i l e) ∙ final-low (listedPart s (getD qs i 0)) (low (listedPart s (getD qs i 0)) (subst Listed (r .class i l e) e))
+        ∙ sym (mark-part s (getD qs i 0))))
         (k .3)
       where
         low : (k : ℕ) → Listed k → k < 8
@@ -150,12 +154,12 @@ module _ (s : List ℕ) (h : FileHead) (qs : List ℕ) (p : Partition s 100 (len
       list-row : (getD gs (rowOf qs (dh .seekkeys)) 0 ≡ 4) × (getD hs (rowOf qs (dh .seekkeys)) 0 ≡ getD qs j 0)
       list-row =
           let x = row-in qs (dh .seekkeys) (f .place) in
-          r .keys (rowOf qs (dh .seekkeys)) (getD qs j 0) (x .0) .1 (dh, stands j dh l d e, sym (x .1))
+          r .keysPart (rowOf qs (dh .seekkeys)) (getD qs j 0) (x .0) .1 (dh, stands j dh l d e, sym (x .1))
 
       copy-row : (q : ℕ) → In q (places ks) → Listed (getD gs (rowOf qs q) 0) × (getD hs (rowOf qs q) 0 ≡ getD qs j 0)
       copy-row q k =
           let x = row-in qs q (entry-starts s qs (getD qs j 0) (f .from + 4) q ks (f .entries) k) in
-          r .listed (rowOf qs q) (getD qs j 0) (x .0) .1
+          r .copied (rowOf qs q) (getD qs j 0) (x .0) .1
           (dh, ks, stands j dh l d e, inr f, subst (λ (z : ℕ). In z (places ks)) (sym (x .1)) k)
 
       list-fresh : (m : ℕ) → Has (rowOf qs (dh .seekkeys)) m (copied s qs ks) → ⊥
@@ -221,12 +225,12 @@ module _ (s : List ℕ) (h : FileHead) (qs : List ℕ) (p : Partition s 100 (len
   leads-at i l =
       ⊎-elim
       (λ (e : getD gs i 0 ≡ 4).
-      let k = r .keys i (getD hs i 0) l .0 (e, refl) in
+      let k = r .keysPart i (getD hs i 0) l .0 (e, refl) in
       let a = k .1 in
       up i l refl (subst (Leads qs hs) (a .here) (⊎-elim
       (λ (x : getD gs (a .row) 0 ≡ 1). root (r .headPart (a .row) (a .within) .0 x))
       (λ (x : getD gs (a .row) 0 ≡ 6). r .leads (a .row) (a .within) (inr x))
-      (a .part))))
+      (a .is))))
       (λ (e : Listed (getD gs i 0)). r .leads i l e)
 
   pub all-known : (i : ℕ) → i < length qs → getD gs i 0 < 8

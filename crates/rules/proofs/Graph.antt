@@ -10,7 +10,7 @@ use lib.Seq.{getD-set-same, getD-set-other}
 use borrow.Author.Tests.{le-leb, lt-leb}
 use Rattle.wire.specs.Check.{pick}
 use Rattle.wire.proofs.Checks.{below-or}
-use Rattle.rules.specs.Row.{Rising}
+use Rattle.table.specs.Table.{Rising}
 use Rattle.rules.specs.Rules.{Directory, Leads, root, up}
 use Rattle.rules.proofs.Items.{Item, Has, Fresh, Assigned, same?, has?}
 
@@ -198,7 +198,8 @@ module _ (qs : List ℕ) (g : Graph qs) where
           (λ (e : c ≡ j). inl e)
           (λ (e : c ≡ j → ⊥).
           ⊎-elim
-          (λ (x : (m : ℕ) × Has c m its). absurd (given-not (x .0) (g .within j (getD os j 0) c (x .0) its says (x .1) .1) .1 (subst Directory (given c (x .0) (x .1)) h)))
+          (λ (x : (m : ℕ) × Has c m its).
+          absurd (given-not (x .0) (g .within j (getD os j 0) c (x .0) its says (x .1) .1) .1 (subst Directory (given c (x .0) (x .1)) h)))
           (λ (x : (m : ℕ) → Has c m its → ⊥). inr (subst Directory (off-j c e ∙ a .outPart c x) h))
           (has? c its))
           (same? c j)
@@ -317,7 +318,8 @@ module _ (qs : List ℕ) (g : Graph qs) where
             })
             (was-done c h d);
         shape = λ i h k. ⊎-elim
-            (λ (x : (m : ℕ) × Has i m its). inr (given i (x .0) (x .1) ∙ given-mark (x .0) (gives i (x .0) (x .1)) (subst (λ (y : ℕ). 8 ≤ y) (given i (x .0) (x .1)) k)))
+            (λ (x : (m : ℕ) × Has i m its). inr
+            (given i (x .0) (x .1) ∙ given-mark (x .0) (gives i (x .0) (x .1)) (subst (λ (y : ℕ). 8 ≤ y) (given i (x .0) (x .1)) k)))
             (λ (x : (m : ℕ) → Has i m its → ⊥). old-mark i h x k)
             (has? i its);
         leads = λ i h b n. ⊎-elim

@@ -6,6 +6,7 @@ pub mod Counts
 pub mod Demands
 pub mod Directories
 pub mod Fixed
+pub mod Frees
 pub mod FromRules
 pub mod Graph
 pub mod Items

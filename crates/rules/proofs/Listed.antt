@@ -10,9 +10,10 @@ use Rattle.wire.specs.Check.{pick}
 use Rattle.key.specs.Piece.{pieceAt}
 use Rattle.key.specs.declared.header.Key.{Key}
 use Rattle.rules.specs.Entry.{dirClass, listedPart}
-use Rattle.rules.specs.Row.{Rising, starts, rowOf}
+use Rattle.table.specs.Table.{Rising}
+use Rattle.rules.specs.Row.{starts}
 use Rattle.rules.specs.Rules.{In, Distinct, Entries, Listed, places}
-use Rattle.rules.specs.Turn.{listedMark}
+use Rattle.rules.specs.Turn.{rowOf, listedMark}
 use Rattle.rules.proofs.Graph.{final, final-low, final-high, one-row}
 use Rattle.rules.proofs.Items.{Has, Fresh}
 use Rattle.rules.proofs.Places.{row-in}

@@ -20,8 +20,8 @@ use Rattle.fileheader.specs.declared.FileHead.{FileHead}
 use Rattle.rules.specs.Entry.{entryFits}
 use Rattle.rules.specs.Free.{freeHolds, infoHolds}
 use Rattle.rules.specs.Order.{onHead, ruled}
-use Rattle.rules.specs.Row.{rowOf}
-use Rattle.rules.specs.Turn.{Turn, going, stop, andThen, give, listedMark, onCopy, copyTurn, copies, ended, dataTurn, onData, keysIn, keysTurn, onDir, dirTurn, settle, roundTurn, nextRow, rounds, firstParts}
+use Rattle.rules.specs.Turn.{rowOf, Turn, going, stop, andThen, give, listedMark, onCopy, copyTurn, copies, ended, dataTurn, onData, keysIn}
+use Rattle.rules.specs.Turn.{keysTurn, onDir, dirTurn, settle, roundTurn, nextRow, rounds, firstParts}
 
 abbrev pub Late : Turn → Type 0
 Late (going ps os c) = Unit

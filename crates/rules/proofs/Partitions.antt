@@ -7,7 +7,7 @@ use lib.ListN.{length, getD}
 use Rattle.key.specs.Piece.{pieceAt, sizeOf}
 use Rattle.key.proofs.Pieces.{size-fits}
 use Rattle.rules.specs.Partition.{Partition}
-use Rattle.rules.specs.Row.{Rising}
+use Rattle.table.specs.Table.{Rising}
 
 -- one piece more
 pub snoc : (s : List ℕ) (p : ℕ) (qs : List ℕ) (e : ℕ) → Partition s p e qs → 0 < sizeOf (pieceAt s e)

@@ -8,7 +8,8 @@ use borrow.Author.Tests.{eqb-true}
 use lib.Dec.{eqb}
 use lib.ListN.{length, getD}
 use Rattle.wire.proofs.Checks.{false-true}
-use Rattle.rules.specs.Row.{starts, rowOf}
+use Rattle.rules.specs.Row.{starts}
+use Rattle.rules.specs.Turn.{rowOf}
 
 -- where a piece starts at p, its row holds p
 pub row-in : (qs : List ℕ) (p : ℕ) → starts qs p ≡ true → (rowOf qs p < length qs) × (getD qs (rowOf qs p) 0 ≡ p)

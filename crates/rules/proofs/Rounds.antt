@@ -73,7 +73,8 @@ module _ (s : List ℕ) (h : FileHead) (qs : List ℕ) (p : Partition s 100 (len
     where
       go : (b : Bool) → ltb (nextRow ps) (length ps) ≡ b
           → ((ps os us vs : List ℕ) (c e : ℕ) → S ps os → count ps ≤ f → rounds s h qs f ps os c ≡ going us vs e → Finished us vs)
-          → pick b (andThen (rounds s h qs f) (andThen (settle (nextRow ps) (getD ps (nextRow ps) 0 - 8)) (dirTurn s h qs (nextRow ps) ps os))) (going ps os c) ≡ going us vs e
+          → pick b (andThen (rounds s h qs f) (andThen (settle (nextRow ps) (getD ps (nextRow ps) 0 - 8)) (dirTurn s h qs (nextRow ps) ps os)))
+          (going ps os c) ≡ going us vs e
           → Finished us vs
       go true t more g =
           let r = nextRow ps in
@@ -111,7 +112,8 @@ module _ (s : List ℕ) (h : FileHead) (qs : List ℕ) (p : Partition s 100 (len
         go : (b : Bool) → ltb (nextRow ps) (length ps) ≡ b
             → ((ps os : List ℕ) (c : ℕ) → S ps os → A ps os → count ps ≤ f → (e : ℕ) × (rounds s h qs f ps os c ≡ going gs hs e))
             → (e : ℕ)
-            × (pick b (andThen (rounds s h qs f) (andThen (settle (nextRow ps) (getD ps (nextRow ps) 0 - 8)) (dirTurn s h qs (nextRow ps) ps os))) (going ps os c) ≡ going gs hs e)
+            × (pick b (andThen (rounds s h qs f) (andThen (settle (nextRow ps) (getD ps (nextRow ps) 0 - 8)) (dirTurn s h qs (nextRow ps) ps os)))
+            (going ps os c) ≡ going gs hs e)
         go true t more =
             let r = nextRow ps in
             let l = ltb-true r (length ps) t in

@@ -9,8 +9,9 @@ use lib.Dec.{eqb, leb}
 use lib.ListN.{length, getD}
 use Rattle.wire.specs.Check.{pick}
 use Rattle.fileheader.specs.declared.FileHead.{FileHead}
-use Rattle.rules.specs.Row.{Rising, starts, rowOf}
-use Rattle.rules.specs.Turn.{going, andThen, nextRow, roundTurn, rounds}
+use Rattle.table.specs.Table.{Rising}
+use Rattle.rules.specs.Row.{starts}
+use Rattle.rules.specs.Turn.{rowOf, going, andThen, nextRow, roundTurn, rounds}
 
 or-true : (b : Bool) → (b || true) ≡ true
 or-true true = refl

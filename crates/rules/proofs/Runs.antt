@@ -15,6 +15,7 @@ use Rattle.wire.proofs.Checks.{yes-all, not-all, all-or, false-true}
 use Rattle.key.specs.declared.header.Key.{Key}
 use Rattle.key.specs.declared.header.Header.{Header}
 use Rattle.key.specs.declared.header.Header.the-variants.{Good, Bad}
+use Rattle.directory.specs.Dir.{dirOf, noKeys}
 use Rattle.keylist.specs.Keys.{listIn, copyIn}
 use Rattle.keylist.specs.declared.Data.{Data}
 use Rattle.keylist.specs.declared.Data.the-variants as span
@@ -23,10 +24,10 @@ use Rattle.directory.specs.declared.Dir.the-variants as dir
 use Rattle.directory.specs.declared.DirHead.{DirHead}
 use Rattle.fileheader.specs.declared.FileHead.{FileHead}
 use Rattle.rules.specs.Entry.{entryFits}
-use Rattle.rules.specs.Row.{starts, rowOf}
-use Rattle.directory.specs.Dir.{dirOf, noKeys}
+use Rattle.rules.specs.Row.{starts}
 use Rattle.rules.specs.Rules.{Copies, Entries, Filled}
-use Rattle.rules.specs.Turn.{Turn, going, stop, andThen, give, listedMark, onCopy, copyTurn, copies, ended, dataTurn, onData, keysIn, keysTurn, onDir, dirTurn}
+use Rattle.rules.specs.Turn.{rowOf, Turn, going, stop, andThen, give, listedMark, onCopy, copyTurn, copies, ended, dataTurn, onData, keysIn}
+use Rattle.rules.specs.Turn.{keysTurn, onDir, dirTurn}
 use Rattle.rules.proofs.Items.{Item, item, Assign}
 
 -- a turn that went on did not stop
@@ -48,7 +49,7 @@ pub tested : (b : Bool) (t : Turn) (n p : ℕ) {us vs : List ℕ} {e : ℕ} → 
 tested true t n p h = (refl, h)
 tested false t n p h = stopped (sym h)
 
-gave : (i m d next place : ℕ) (ps os : List ℕ) {us vs : List ℕ} {e : ℕ} → give i m d next place ps os ≡ going us vs e
+pub gave : (i m d next place : ℕ) (ps os : List ℕ) {us vs : List ℕ} {e : ℕ} → give i m d next place ps os ≡ going us vs e
     → (getD ps i 0 ≡ 7) × ((us ≡ set ps i m) × ((vs ≡ set os i d) × (e ≡ next)))
 gave i m d next place ps os {us} {vs} {e} h =
     let t = tested (eqb (getD ps i 0) 7) (going (set ps i m) (set os i d) next) 14 place h in
@@ -143,7 +144,8 @@ module _ (s qs : List ℕ) where
     copies-go [] ps os us vs c h f a = λ i. going (sym (a .0) i) (sym (a .1) i) (h i)
     copies-go (k ∷ ks) ps os us vs c h f a =
         rw (one-goes ps os c k (h .0) (f .0) (a .0))
-        (copies-go ks (set ps (rowOf qs (k .seekkey)) (listedMark s (k .seekkey))) (set os (rowOf qs (k .seekkey)) d) us vs (c + k .keylen) (h .1) (f .1) (a .1))
+        (copies-go ks (set ps (rowOf qs (k .seekkey)) (listedMark s (k .seekkey))) (set os (rowOf qs (k .seekkey)) d) us vs (c + k .keylen) (h .1)
+        (f .1) (a .1))
 
   -- what a directory gives, from its header and copies
   abbrev pub Gives : ℕ → DirHead → List Key → List Item → Type 0
@@ -172,7 +174,8 @@ module _ (s qs : List ℕ) where
         let row = rowOf qs (dh .seekkeys) in
         let t = and-then (dataTurn s qs d (dh .seekkeys) a end) (give row 4 d (a + 4) d ps os) h in
         let y = gave row 4 d (a + 4) d ps os (t .3) in
-        let u = tested (leb (a + 4) end) (andThen (ended (dh .seekkeys) end) (copies s qs d (dh .seekkeys) end (numAt 4 s a) (t .0) (t .1) (t .2))) 12 (dh .seekkeys) (t .4) in
+        let u = tested (leb (a + 4) end) (andThen (ended (dh .seekkeys) end) (copies s qs d (dh .seekkeys) end (numAt 4 s a) (t .0) (t .1) (t .2))) 12
+        (dh .seekkeys) (t .4) in
         let v = and-then (ended (dh .seekkeys) end) (copies s qs d (dh .seekkeys) end (numAt 4 s a) (t .0) (t .1) (t .2)) (u .1) in
         let w = tested (eqb (v .2) end) (going (v .0) (v .1) (v .2)) 12 (dh .seekkeys) (v .4) in
         let n : v .2 ≡ end = eqb-true (v .2) end (w .0) in
@@ -227,7 +230,8 @@ module _ (s qs : List ℕ) where
           gives (rowOf qs (dh .seekkeys)) 4 d (f .from + 4) d ps os (a .0),
           le-leb (f .from + 4) (f .end) (f .room),
           ← (f .count),
-          copies-go d (dh .seekkeys) (f .end) ks (set ps (rowOf qs (dh .seekkeys)) 4) (set os (rowOf qs (dh .seekkeys)) d) us vs (f .from + 4) (f .copies) (f .entries) (a .1),
+          copies-go d (dh .seekkeys) (f .end) ks (set ps (rowOf qs (dh .seekkeys)) 4) (set os (rowOf qs (dh .seekkeys)) d) us vs (f .from + 4)
+              (f .copies) (f .entries) (a .1),
           eq-eqb (f .end) (f .end) refl,
         )
 
@@ -245,7 +249,8 @@ module _ (s qs : List ℕ) where
         g
       where
         filled-goes : (f : Filled s qs d dh ks) → Assign d (item (rowOf qs (dh .seekkeys)) 4 ∷ copied ks) ps os us vs
-            → pick (all (noKeys dh)) (going ps os 0) (onData s qs d (dh .seekkeys) ps os (pick (starts qs (dh .seekkeys)) (listIn s (dh .seekkeys) (dh .nbyteskeys) d) span.Bad))
+            → pick (all (noKeys dh)) (going ps os 0)
+            (onData s qs d (dh .seekkeys) ps os (pick (starts qs (dh .seekkeys)) (listIn s (dh .seekkeys) (dh .nbyteskeys) d) span.Bad))
             ≡ going us vs (f .end)
         filled-goes f a = rw (some f, f .place, f .held) (data-goes ks f a)
           where

@@ -9,17 +9,18 @@ use lib.ListN.{length, getD}
 use Rattle.wire.specs.Check.{All}
 use Rattle.key.specs.Piece.{pieceAt}
 use Rattle.key.specs.declared.header.Key.{Key}
-use Rattle.directory.specs.Dir.{headIn, noKeys, dirOf}
+use Rattle.directory.specs.Dir.{headIn, dirOf, noKeys}
 use Rattle.wire.specs.Name.{tFile, tList}
 use Rattle.directory.specs.declared.Dir.the-variants as dir
 use Rattle.directory.specs.declared.DirHead.{DirHead}
 use Rattle.fileheader.specs.declared.FileHead.{FileHead}
+use Rattle.wire.proofs.Checks.{false-true}
 use Rattle.rules.specs.Entry.{listedPart}
-use Rattle.rules.specs.Free.{gapOf, freeHolds, infoHolds}
+use Rattle.rules.specs.Free.{isGap, Free, infoHolds}
 use Rattle.rules.specs.Partition.{Partition}
-use Rattle.rules.specs.Row.{starts, rowOf}
+use Rattle.rules.specs.Row.{starts}
 use Rattle.rules.specs.Rules.{Rules, In, Distinct, Directory, Listed, DirectoryAt, KeysOf, Lists, KeysAre, Filled, places}
-use Rattle.rules.specs.Turn.{firstPart, listedMark}
+use Rattle.rules.specs.Turn.{rowOf, firstPart, listedMark}
 use Rattle.rules.proofs.Classes.{Named, no-gap, two-records, head-file, free-file, info-list}
 use Rattle.rules.proofs.Directories.{graph, zero-place, below-first, same-keys}
 use Rattle.rules.proofs.Fixed.{Place, head, free, info, gap, other, place}
@@ -63,7 +64,8 @@ module _ (s : List ℕ) (h : FileHead) (qs : List ℕ) (p : Partition s 100 (len
       let x = sym (is-final i l) ∙ b .same in
       ⊎-elim
       (λ (y : (b .mark ≡ 4) × (final (b .mark) ≡ 4)). omega (arith, y .1))
-      (λ (y : (b .mark ≡ 4 → ⊥) × Listed (final (b .mark))). ⊎-elim (λ (z : final (b .mark) ≡ 5). omega arith) (λ (z : final (b .mark) ≡ 6). omega arith) (y .1))
+      (λ (y : (b .mark ≡ 4 → ⊥) × Listed (final (b .mark))). ⊎-elim (λ (z : final (b .mark) ≡ 5). omega arith)
+      (λ (z : final (b .mark) ≡ 6). omega arith) (y .1))
       (given-part (b .mark) (w .1)))
       (same? (getD ps i 0) 7)
 
@@ -73,7 +75,7 @@ module _ (s : List ℕ) (h : FileHead) (qs : List ℕ) (p : Partition s 100 (len
       ((getD ps i 0 ≡ 1) × (getD qs i 0 ≡ 100))
       ⊎ (((getD ps i 0 ≡ 2) × (getD qs i 0 ≡ h .seekfree))
       ⊎ (((getD ps i 0 ≡ 3) × (getD qs i 0 ≡ h .seekinfo))
-      ⊎ (((getD ps i 0 ≡ 0) × (gapOf (pieceAt s (getD qs i 0)) ≡ 0 → ⊥)) ⊎ ((4 ≤ getD ps i 0) × (firstPart s h (getD qs i 0) ≡ 7)))))
+      ⊎ (((getD ps i 0 ≡ 0) × (isGap (pieceAt s (getD qs i 0)) ≡ true)) ⊎ ((4 ≤ getD ps i 0) × (firstPart s h (getD qs i 0) ≡ 7)))))
 
   says-by : (i : ℕ) → i < length qs → Place s h (getD qs i 0) → Says i
   says-by i l (head a b) = inl (fixed-part i 9 l b (λ e. omega arith) .0 ∙ final-high 9 (omega arith), a)
@@ -91,24 +93,37 @@ module _ (s : List ℕ) (h : FileHead) (qs : List ℕ) (p : Partition s 100 (len
     Q = (getD ps i 0 ≡ 1 → getD qs i 0 ≡ 100)
         × ((getD ps i 0 ≡ 2 → getD qs i 0 ≡ h .seekfree)
         × ((getD ps i 0 ≡ 3 → getD qs i 0 ≡ h .seekinfo)
-        × ((getD ps i 0 ≡ 0 → gapOf (pieceAt s (getD qs i 0)) ≡ 0 → ⊥) × (4 ≤ getD ps i 0 → firstPart s h (getD qs i 0) ≡ 7))))
+        × ((getD ps i 0 ≡ 0 → isGap (pieceAt s (getD qs i 0)) ≡ true) × (4 ≤ getD ps i 0 → firstPart s h (getD qs i 0) ≡ 7))))
 
     told : Q
     told =
         ⊎-elim
-        (λ (x : (getD ps i 0 ≡ 1) × (getD qs i 0 ≡ 100)).
-        (λ e. x .1, (λ e. absurd (omega (arith, x .0)), (λ e. absurd (omega (arith, x .0)), (λ e. absurd (omega (arith, x .0)), λ e. absurd (omega (arith, x .0)))))))
+        (λ (x : (getD ps i 0 ≡ 1) × (getD qs i 0 ≡ 100)). (
+          λ e. x .1,
+          (
+            λ e. absurd (omega (arith, x .0)),
+            (λ e. absurd (omega (arith, x .0)), (λ e. absurd (omega (arith, x .0)), λ e. absurd (omega (arith, x .0)))),
+          ),
+        ))
         (⊎-elim
-        (λ (x : (getD ps i 0 ≡ 2) × (getD qs i 0 ≡ h .seekfree)).
-        (λ e. absurd (omega (arith, x .0)), (λ e. x .1, (λ e. absurd (omega (arith, x .0)), (λ e. absurd (omega (arith, x .0)), λ e. absurd (omega (arith, x .0)))))))
+        (λ (x : (getD ps i 0 ≡ 2) × (getD qs i 0 ≡ h .seekfree)). (
+          λ e. absurd (omega (arith, x .0)),
+          (λ e. x .1, (λ e. absurd (omega (arith, x .0)), (λ e. absurd (omega (arith, x .0)), λ e. absurd (omega (arith, x .0))))),
+        ))
         (⊎-elim
-        (λ (x : (getD ps i 0 ≡ 3) × (getD qs i 0 ≡ h .seekinfo)).
-        (λ e. absurd (omega (arith, x .0)), (λ e. absurd (omega (arith, x .0)), (λ e. x .1, (λ e. absurd (omega (arith, x .0)), λ e. absurd (omega (arith, x .0)))))))
+        (λ (x : (getD ps i 0 ≡ 3) × (getD qs i 0 ≡ h .seekinfo)). (
+          λ e. absurd (omega (arith, x .0)),
+          (λ e. absurd (omega (arith, x .0)), (λ e. x .1, (λ e. absurd (omega (arith, x .0)), λ e. absurd (omega (arith, x .0))))),
+        ))
         (⊎-elim
-        (λ (x : (getD ps i 0 ≡ 0) × (gapOf (pieceAt s (getD qs i 0)) ≡ 0 → ⊥)).
-        (λ e. absurd (omega (arith, x .0)), (λ e. absurd (omega (arith, x .0)), (λ e. absurd (omega (arith, x .0)), (λ e. x .1, λ e. absurd (omega (arith, x .0)))))))
-        (λ (x : (4 ≤ getD ps i 0) × (firstPart s h (getD qs i 0) ≡ 7)).
-        (λ e. absurd (omega (arith, x .0)), (λ e. absurd (omega (arith, x .0)), (λ e. absurd (omega (arith, x .0)), (λ e. absurd (omega (arith, x .0)), λ e. x .1))))))))
+        (λ (x : (getD ps i 0 ≡ 0) × (isGap (pieceAt s (getD qs i 0)) ≡ true)). (
+          λ e. absurd (omega (arith, x .0)),
+          (λ e. absurd (omega (arith, x .0)), (λ e. absurd (omega (arith, x .0)), (λ e. x .1, λ e. absurd (omega (arith, x .0))))),
+        ))
+        (λ (x : (4 ≤ getD ps i 0) × (firstPart s h (getD qs i 0) ≡ 7)). (
+          λ e. absurd (omega (arith, x .0)),
+          (λ e. absurd (omega (arith, x .0)), (λ e. absurd (omega (arith, x .0)), (λ e. absurd (omega (arith, x .0)), λ e. x .1))),
+        )))))
         (says i l)
 
   abbrev At : ℕ → DirHead → Type 0
@@ -140,7 +155,7 @@ module _ (s : List ℕ) (h : FileHead) (qs : List ℕ) (p : Partition s 100 (len
       row = back .row;
       within = back .inside;
       here = sym (back .owner);
-      part = back .part;
+      is = back .part;
       header = subst (λ (x : ℕ). dirOf s h x (getD os (back .row) 0) ≡ dir.Held (said .dirhead)) (sym (back .owner)) (said .header);
     }
 
@@ -153,7 +168,10 @@ module _ (s : List ℕ) (h : FileHead) (qs : List ℕ) (p : Partition s 100 (len
       filled = subst (λ (d : ℕ). Filled s qs d (said .dirhead) (said .keys)) (sym (back .owner)) f;
       how = ⊎-elim
           (λ (y : (i ≡ rowOf qs (said .dirhead .seekkeys)) × (back .mark ≡ 4)).
-          inl (same ∙ ap final (y .1) ∙ final-low 4 (omega arith), sym (ap (λ (z : ℕ). getD qs z 0) (y .0) ∙ row-in qs (said .dirhead .seekkeys) (f .place) .1)))
+          inl (
+            same ∙ ap final (y .1) ∙ final-low 4 (omega arith),
+            sym (ap (λ (z : ℕ). getD qs z 0) (y .0) ∙ row-in qs (said .dirhead .seekkeys) (f .place) .1),
+          ))
           (λ (y : Has i (back .mark) (copied s qs (said .keys))).
           let z = has-in s qs i (back .mark) (said .keys) y in
           let w = row-in qs (z .0) (entry-starts s qs (getD qs (back .row) 0) (f .from + 4) (z .0) (said .keys) (f .entries) (z .1)) in
@@ -166,7 +184,8 @@ module _ (s : List ℕ) (h : FileHead) (qs : List ℕ) (p : Partition s 100 (len
     origin =
         ⊎-elim
         (λ (x : All (noKeys (said .dirhead)) × ((said .keys ≡ []) × (back .items ≡ []))). absurd (subst (Has i (back .mark)) (x .1 .1) (back .has)))
-        (λ (x : Filled s qs (getD qs (back .row) 0) (said .dirhead) (said .keys) × (back .items ≡ item (rowOf qs (said .dirhead .seekkeys)) 4 ∷ copied s qs (said .keys))).
+        (λ (x : Filled s qs (getD qs (back .row) 0) (said .dirhead) (said .keys)
+        × (back .items ≡ item (rowOf qs (said .dirhead .seekkeys)) 4 ∷ copied s qs (said .keys))).
         origin-by (x .0) (subst (Has i (back .mark)) (x .1) (back .has)))
         (said .items)
 
@@ -187,14 +206,15 @@ module _ (s : List ℕ) (h : FileHead) (qs : List ℕ) (p : Partition s 100 (len
         record {
           keys = x .keys;
           items = w .items;
-          gives = subst (λ (g : DirHead). Gives s qs d g (x .keys) (w .items)) e (subst (λ (n : ℕ). Gives s qs n (x .dirhead) (x .keys) (w .items)) (a .here) (x .items));
+          gives = subst (λ (g : DirHead). Gives s qs d g (x .keys) (w .items)) e
+              (subst (λ (n : ℕ). Gives s qs n (x .dirhead) (x .keys) (w .items)) (a .here) (x .items));
           fresh = w .fresh;
           kids = λ i m k. let c = w .kids i m k in (c .1 .0, c .1 .1 ∙ a .here);
         }
 
     gift : Gift d dh
     unfolding graph
-    gift = let w = v .done (a .row) (a .within) (a .part) in gift-by w (w .says)
+    gift = let w = v .done (a .row) (a .within) (a .is) in gift-by w (w .says)
 
     both : {A : Type 0} (ks : List Key) → All (noKeys dh) → Filled s qs d dh ks → A
     both ks n f = absurd (zero-place s qs (length s) p (subst (λ (x : ℕ). starts qs x ≡ true) (n .0) (f .place)))
@@ -209,7 +229,8 @@ module _ (s : List ℕ) (h : FileHead) (qs : List ℕ) (p : Partition s 100 (len
         ⊎-elim
         (λ (x : All (noKeys dh) × ((gift .keys ≡ []) × (gift .items ≡ []))). both ks (x .0) f)
         (λ (x : Filled s qs d dh (gift .keys) × (gift .items ≡ item (rowOf qs (dh .seekkeys)) 4 ∷ copied s qs (gift .keys))).
-        x .1 ∙ ap (λ (ls : List Key). item (rowOf qs (dh .seekkeys)) 4 ∷ copied s qs ls) (same-keys s qs (zero-place s qs (length s) p) d dh (gift .keys) ks (x .0) f))
+        x .1 ∙ ap (λ (ls : List Key). item (rowOf qs (dh .seekkeys)) 4 ∷ copied s qs ls)
+        (same-keys s qs (zero-place s qs (length s) p) d dh (gift .keys) ks (x .0) f))
         (gift .gives)
 
     list-of : (i : ℕ) → i < length qs → dh .seekkeys ≡ getD qs i 0 → (getD ps i 0 ≡ 4) × (getD os i 0 ≡ d)
@@ -251,12 +272,14 @@ module _ (s : List ℕ) (h : FileHead) (qs : List ℕ) (p : Partition s 100 (len
         x .header,
         ⊎-elim
             (λ (y : All (noKeys (x .dirhead)) × ((x .keys ≡ []) × (v .done i l d .items ≡ []))). inl (y .0, y .1 .0))
-            (λ (y : Filled s qs (getD qs i 0) (x .dirhead) (x .keys) × (v .done i l d .items ≡ item (rowOf qs (x .dirhead .seekkeys)) 4 ∷ copied s qs (x .keys))). inr (y .0))
+            (λ (y : Filled s qs (getD qs i 0) (x .dirhead) (x .keys)
+            × (v .done i l d .items ≡ item (rowOf qs (x .dirhead .seekkeys)) 4 ∷ copied s qs (x .keys))). inr (y .0))
             (x .items),
       )
 
   listed-some : (k : ℕ) → Listed k → (4 ≤ k) × ((k ≡ 7 → ⊥) × (k ≡ 4 → ⊥))
-  listed-some k = ⊎-elim (λ (e : k ≡ 5). (omega arith, (λ x. omega arith, λ x. omega arith))) (λ (e : k ≡ 6). (omega arith, (λ x. omega arith, λ x. omega arith)))
+  listed-some k = ⊎-elim (λ (e : k ≡ 5). (omega arith, (λ x. omega arith, λ x. omega arith)))
+      (λ (e : k ≡ 6). (omega arith, (λ x. omega arith, λ x. omega arith)))
 
   list-from : (i : ℕ) → i < length qs → getD ps i 0 ≡ 4 → KeysOf s h qs ps os (getD os i 0) (getD qs i 0)
   list-from i l e =
@@ -280,7 +303,7 @@ module _ (s : List ℕ) (h : FileHead) (qs : List ℕ) (p : Partition s 100 (len
       ((o .dirhead, o .keys, o .stands, inr (o .filled), x .0), x .1))
       (o .how)
 
-  module _ (dh : DirHead) (hd : headIn s (h .nbytesname) ≡ dir.Held dh) (fr : freeHolds s qs h ≡ true) (nf : infoHolds s qs h ≡ true) where
+  module _ (dh : DirHead) (hd : headIn s (h .nbytesname) ≡ dir.Held dh) (fr : Free s qs h) (nf : infoHolds s qs h ≡ true) where
     info-there : (i : ℕ) → i < length qs → getD qs i 0 ≡ h .seekinfo → Named s (h .seekinfo) tList
     info-there i l e = info-list s qs h nf (λ z. omega (arith, below-first s h qs p i l))
 
@@ -293,7 +316,7 @@ module _ (s : List ℕ) (h : FileHead) (qs : List ℕ) (p : Partition s 100 (len
     first-row i l e (other x y z a b) = absurd (x e)
 
     second-row : (i : ℕ) → i < length qs → getD qs i 0 ≡ h .seekfree → Place s h (getD qs i 0) → getD ps i 0 ≡ 2
-    second-row i l e (head a b) = absurd (free-file s qs h fr .0 (sym e ∙ a))
+    second-row i l e (head a b) = absurd (fr .other (sym e ∙ a))
     second-row i l e (free x a b) = fixed-part i 2 l b (λ y. omega arith) .0 ∙ final-low 2 (omega arith)
     second-row i l e (info x y a b) = absurd (y e)
     second-row i l e (gap x y z a b) = absurd (y e)
@@ -303,20 +326,20 @@ module _ (s : List ℕ) (h : FileHead) (qs : List ℕ) (p : Partition s 100 (len
     third-row i l e (head a b) =
         absurd (two-records s 100 (head-file s (h .nbytesname) dh hd) (subst (λ (x : ℕ). Named s x tList) (sym e ∙ a) (info-there i l e)))
     third-row i l e (free x a b) =
-        absurd (two-records s (h .seekfree) (free-file s qs h fr .1) (subst (λ (y : ℕ). Named s y tList) (sym e ∙ a) (info-there i l e)))
+        absurd (two-records s (h .seekfree) (free-file s qs h fr) (subst (λ (y : ℕ). Named s y tList) (sym e ∙ a) (info-there i l e)))
     third-row i l e (info x y a b) = fixed-part i 3 l b (λ z. omega arith) .0 ∙ final-low 3 (omega arith)
     third-row i l e (gap x y z a b) = absurd (z e)
     third-row i l e (other x y z a b) = absurd (z e)
 
-    at-gap : (q n : ℕ) → q ≡ n → gapOf (pieceAt s n) ≡ 0 → gapOf (pieceAt s q) ≡ 0
-    at-gap q n e f = ap (λ (x : ℕ). gapOf (pieceAt s x)) e ∙ f
+    at-gap : {A : Type 0} (q n : ℕ) (name : List ℕ) → q ≡ n → Named s n name → isGap (pieceAt s q) ≡ true → A
+    at-gap q n name e f g = absurd (no-gap s n name f (ap (λ (x : ℕ). isGap (pieceAt s x)) (sym e) ∙ g))
 
-    gap-row : (i : ℕ) → i < length qs → (gapOf (pieceAt s (getD qs i 0)) ≡ 0 → ⊥) → Place s h (getD qs i 0) → getD ps i 0 ≡ 0
-    gap-row i l n (head a b) = absurd (n (at-gap (getD qs i 0) 100 a (no-gap s 100 tFile (head-file s (h .nbytesname) dh hd))))
-    gap-row i l n (free x a b) = absurd (n (at-gap (getD qs i 0) (h .seekfree) a (no-gap s (h .seekfree) tFile (free-file s qs h fr .1))))
-    gap-row i l n (info x y a b) = absurd (n (at-gap (getD qs i 0) (h .seekinfo) a (no-gap s (h .seekinfo) tList (info-there i l a))))
+    gap-row : (i : ℕ) → i < length qs → isGap (pieceAt s (getD qs i 0)) ≡ true → Place s h (getD qs i 0) → getD ps i 0 ≡ 0
+    gap-row i l n (head a b) = at-gap (getD qs i 0) 100 tFile a (head-file s (h .nbytesname) dh hd) n
+    gap-row i l n (free x a b) = at-gap (getD qs i 0) (h .seekfree) tFile a (free-file s qs h fr) n
+    gap-row i l n (info x y a b) = at-gap (getD qs i 0) (h .seekinfo) tList a (info-there i l a) n
     gap-row i l n (gap x y z a b) = fixed-part i 0 l b (λ w. omega arith) .0 ∙ final-low 0 (omega arith)
-    gap-row i l n (other x y z a b) = absurd (n a)
+    gap-row i l n (other x y z a b) = false-true (sym a ∙ n)
 
     alone-row : (i : ℕ) → i < length qs → getD ps i 0 ≤ 3 → Place s h (getD qs i 0) → getD os i 0 ≡ 0
     alone-row i l k (head a b) = fixed-part i 9 l b (λ x. omega arith) .1
@@ -331,19 +354,19 @@ module _ (s : List ℕ) (h : FileHead) (qs : List ℕ) (p : Partition s 100 (len
       parts = v .parts;
       owners = v .owners;
       known = λ i l. omega (arith, over i l);
-      head = (dh, hd);
-      free = fr;
-      info = nf;
-      gap = λ i l. (told i l .1 .1 .1 .0, λ n. gap-row i l n (place s h (getD qs i 0)));
+      headRule = (dh, hd);
+      freeRule = fr;
+      infoRule = nf;
+      gapPart = λ i l. (told i l .1 .1 .1 .0, λ n. gap-row i l n (place s h (getD qs i 0)));
       headPart = λ i l. (told i l .0, λ e. first-row i l e (place s h (getD qs i 0)));
       freePart = λ i l. (told i l .1 .0, λ e. second-row i l e (place s h (getD qs i 0)));
       infoPart = λ i l. (told i l .1 .1 .0, λ e. third-row i l e (place s h (getD qs i 0)));
       directory = keys-are;
-      keys = λ i d l. (
+      keysPart = λ i d l. (
         λ x. subst (λ (n : ℕ). KeysOf s h qs ps os n (getD qs i 0)) (x .1) (list-from i l (x .0)),
         λ x. list-of d (x .0) (x .1) i l (x .2),
       );
-      listed = λ i d l. (
+      copied = λ i d l. (
         λ x. subst (λ (n : ℕ). Lists s h qs ps os n (getD qs i 0)) (x .1) (copy-from i l (x .0) .0),
         λ x.
             let c = copy-of d (x .0) (x .2) i (x .1) l (x .3) (x .4) in

@@ -9,6 +9,7 @@ use Rattle.key.specs.declared.piece.Piece.{Piece}
 use Rattle.key.specs.declared.piece.Piece.the-variants.{Record, Gap, Refused}
 use Rattle.wire.specs.Name.{tDirectory}
 use Rattle.record.specs.Name.{sameBytes, named}
+use Rattle.rules.specs.Part.{listed, dir}
 use Rattle.rules.specs.Row.{starts}
 
 abbrev pub isRecord : Piece → Bool
@@ -29,6 +30,6 @@ dirClass s (Record k) = named s (k .class) tDirectory
 dirClass s (Gap n) = false
 dirClass s (Refused c p) = false
 
--- the part of a listed record: 6 of class TDirectory, else 5
+-- the part of a listed record
 unfoldable pub listedPart : List ℕ → ℕ → ℕ
-listedPart s p = pick (dirClass s (pieceAt s p)) 6 5
+listedPart s p = pick (dirClass s (pieceAt s p)) dir listed

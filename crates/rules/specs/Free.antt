@@ -1,12 +1,14 @@
 -- The free list and the info record: document 01, "Free list" and "Info".
-use Prim.Native.Nat.{ℕ, _+_, _*_}
-use mathlib.Core.Bool.{Bool, false, _&&_, _||_}
-use mathlib.Core.List.{List, [], _∷_}
+use Prim.Native.Nat.{ℕ, zero, suc, _+_, _*_}
+use mathlib.Core.Bool.{Bool, true, false, _&&_, _||_}
+use mathlib.Core.List.{List, [], _∷_, _++_}
+use mathlib.Core.Path.{_≡_}
 use lib.Dec.{eqb}
-use lib.ListN.{length}
-use Rattle.wire.specs.Check.{Check, le, eq, all, pick}
-use Rattle.wire.specs.Number.{numAt}
-use Rattle.key.specs.Piece.{pieceAt}
+use lib.ListN.{length, getD, drop}
+use Rattle.wire.specs.Check.{Check, le, eq, all, All, pick}
+use Rattle.wire.specs.Equal.{eqBytes}
+use Rattle.wire.specs.Layout.{offsetWidth, extent, valuesAt}
+use Rattle.key.specs.Piece.{pieceAt, sizeOf}
 use Rattle.key.specs.declared.piece.Piece.{Piece}
 use Rattle.key.specs.declared.piece.Piece.the-variants.{Record, Gap, Refused}
 use Rattle.keylist.specs.Keys.{freeIn, infoIn}
@@ -15,35 +17,68 @@ use Rattle.keylist.specs.declared.Data.the-variants.{Held, Bad}
 use Rattle.fileheader.specs.declared.FileHead.{FileHead}
 use Rattle.rules.specs.Row.{starts}
 
--- the size of a gap, 0 for any other piece
-abbrev pub gapOf : Piece → ℕ
-gapOf (Record k) = 0
-gapOf (Gap n) = n
-gapOf (Refused c p) = 0
+abbrev pub isGap : Piece → Bool
+isGap (Record k) = false
+isGap (Gap n) = true
+isGap (Refused c p) = false
 
--- a segment at a: 10 bytes inside the data, Version (2, at most 1000), first, last
-abbrev pub segmentFits : List ℕ → ℕ → ℕ → ℕ → ℕ → List Check
-segmentFits s a end first last =
-    le (a + 10) end ∷ le (numAt 2 s a) 1000 ∷ eq (numAt 4 s (a + 2)) first ∷ eq (numAt 4 s (a + 6)) last ∷ []
+-- a segment: Version (2), first, last
+abbrev pub segmentLayout : ℕ → List ℕ
+segmentLayout w = 2 ∷ w ∷ w ∷ []
+
+abbrev pub segment : List ℕ
+segment = segmentLayout offsetWidth
+
+abbrev pub versionAt : List ℕ → ℕ → ℕ
+versionAt s a = getD (valuesAt segment s a) 0 0
+
+-- n segments from a on: first and last of each
+unfoldable pub segmentsAt : List ℕ → ℕ → ℕ → List ℕ
+segmentsAt s zero a = []
+segmentsAt s (suc n) a = drop 1 (valuesAt segment s a) ++ segmentsAt s n (a + extent segment)
+
+-- Version of each is at most 1000
+unfoldable pub versionsFit : List ℕ → ℕ → ℕ → List Check
+versionsFit s zero a = []
+versionsFit s (suc n) a = le (versionAt s a) 1000 ∷ versionsFit s n (a + extent segment)
+
+-- what segments are by themselves: n of them fill the data from a to its end
+abbrev pub segmentsFit : List ℕ → ℕ → ℕ → ℕ → List Check
+segmentsFit s n a end = eq (a + n * extent segment) end ∷ versionsFit s n a
 
 -- what a gap's segment has as last: the byte after the gap (document 004)
 abbrev pub gapLast : ℕ → ℕ → ℕ
 gapLast q n = q + n
 
--- the segments from a to the end: all but the final one equal the gaps, in file order, none left over; the final one is END to
--- 2,000,000,000
-unfoldable pub segmentsAre : List ℕ → List ℕ → ℕ → ℕ → Bool
-segmentsAre s [] a end = all (eq (a + 10) end ∷ segmentFits s a end (length s) 2000000000)
-segmentsAre s (q ∷ qs) a end =
-    pick (eqb (gapOf (pieceAt s q)) 0) (segmentsAre s qs a end)
-    (all (segmentFits s a end q (gapLast q (gapOf (pieceAt s q)))) && segmentsAre s qs (a + 10) end)
+-- the gaps of a partition in file order: first and last of each
+unfoldable pub gaps : List ℕ → List ℕ → List ℕ
+gaps s [] = []
+gaps s (q ∷ qs) = pick (isGap (pieceAt s q)) (q ∷ gapLast q (sizeOf (pieceAt s q)) ∷ gaps s qs) (gaps s qs)
 
--- its data is exactly nfree ≥ 1 segments of 10 bytes
+-- the final segment
+abbrev pub final : List ℕ → List ℕ
+final s = length s ∷ 2000000000 ∷ []
+
+pub record Free (s qs : List ℕ) (h : FileHead) : Type 0 where
+  -- SeekFree is the start of a plain unpacked record other than the head, of class TFile and size NbytesFree
+  pub other : h .seekfree ≡ 100 → ⊥
+  pub place : starts qs (h .seekfree) ≡ true
+  pub from : ℕ
+  pub end : ℕ
+  pub held : freeIn s (h .seekfree) (h .nbytesfree) ≡ Held from end
+  -- its data is exactly nfree segments (at least 1: the final one is among them)
+  pub fit : All (segmentsFit s (h .nfree) from end)
+  -- the final one is END to 2,000,000,000
+  pub segments : List ℕ
+  pub last : segmentsAt s (h .nfree) from ≡ segments ++ final s
+  -- all but the final one equal the gaps, in file order, none left over
+  pub equal : segments ≡ gaps s qs
+
+-- the same as a test, which the order makes
 abbrev pub freeData : List ℕ → List ℕ → ℕ → Data → Bool
-freeData s qs nfree (Held a end) = all (le 1 nfree ∷ eq (a + nfree * 10) end ∷ []) && segmentsAre s qs a end
-freeData s qs nfree Bad = false
+freeData s qs n (Held a end) = all (segmentsFit s n a end) && eqBytes (segmentsAt s n a) (gaps s qs ++ final s)
+freeData s qs n Bad = false
 
--- SeekFree is the start of a plain unpacked record other than the head, of class TFile and size NbytesFree
 unfoldable pub freeHolds : List ℕ → List ℕ → FileHead → Bool
 freeHolds s qs h =
     pick (eqb (h .seekfree) 100) false

@@ -2,6 +2,7 @@ pub mod Demand
 pub mod Entry
 pub mod Free
 pub mod Order
+pub mod Part
 pub mod Partition
 pub mod Row
 pub mod Rules

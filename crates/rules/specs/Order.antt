@@ -1,21 +1,24 @@
 -- The order of refusals: document 01, "Order" and "Numbers given back". The verdict on a byte string with tables of a given room.
-use Prim.Native.Nat.{ℕ, zero, suc, _+_, _-_}
-use mathlib.Core.List.{List, [], _∷_, _++_}
+use Prim.Native.Nat.{ℕ, zero, suc, _+_}
+use mathlib.Core.List.{List, [], _∷_}
 use lib.Dec.{leb, ltb}
 use lib.ListN.{length, replicate}
 use Rattle.wire.specs.Check.{pick}
+use Rattle.wire.specs.declared.Answer.{Answer}
 use Rattle.key.specs.Piece.{pieceAt}
 use Rattle.key.specs.declared.piece.Piece.{Piece}
 use Rattle.key.specs.declared.piece.Piece.the-variants.{Record, Gap, Refused}
-use Rattle.directory.specs.Dir.{headIn}
-use Rattle.fileheader.specs.File.{openedAs}
+use Rattle.directory.specs.Dir.{headIn, headAnswer}
+use Rattle.fileheader.specs.File.{openedAs, openAnswer}
 use Rattle.directory.specs.declared.Dir.{Dir}
-use Rattle.directory.specs.declared.Dir.the-variants as dir
+use Rattle.directory.specs.declared.Dir.the-variants as header
 use Rattle.fileheader.specs.declared.FileHead.{FileHead}
 use Rattle.fileheader.specs.declared.Opened.{Opened}
 use Rattle.fileheader.specs.declared.Opened.the-variants as opened
+use Rattle.keylist.specs.Keys.{freeAnswer}
+use Rattle.keylist.specs.declared.Data.the-variants as span
 use Rattle.rules.specs.Free.{freeHolds, infoHolds}
-use Rattle.rules.specs.Turn.{Turn, going, stop, rounds, firstParts}
+use Rattle.rules.specs.Turn.{Turn, going, stop, rounds, firstParts, stopAt}
 
 -- the starts of the pieces, or the first refusal by place
 pub data Chain : Type 0 where
@@ -38,11 +41,11 @@ chain s (suc n) p = pick (ltb p (length s)) (onPiece (chain s n) p (pieceAt s p)
 
 -- 8 head, 9 free, 10 info, then the directories
 abbrev pub onHead : List ℕ → FileHead → List ℕ → Dir → Turn
-onHead s h qs (dir.Held dh) =
+onHead s h qs (header.Held dh) =
     pick (freeHolds s qs h)
     (pick (infoHolds s qs h) (rounds s h qs (length qs) (firstParts s h qs) (replicate (length qs) 0) 0) (stop 10 (h .seekinfo)))
-    (stop 9 (h .seekfree))
-onHead s h qs dir.Bad = stop 8 100
+    (stopAt (freeAnswer (h .seekfree) span.Bad))
+onHead s h qs header.Bad = stopAt (headAnswer header.Bad)
 
 unfoldable pub ruled : List ℕ → FileHead → List ℕ → Turn
 ruled s h qs = onHead s h qs (headIn s (h .nbytesname))
@@ -51,6 +54,9 @@ ruled s h qs = onHead s h qs (headIn s (h .nbytesname))
 pub data Verdict : Type 0 where
   passed : List ℕ → List ℕ → List ℕ → Verdict
   refused : ℕ → ℕ → ℕ → Verdict
+
+abbrev pub refusedAs : Answer → Verdict
+refusedAs a = refused (a .number) (a .place) (a .count)
 
 abbrev pub onTurn : List ℕ → Turn → Verdict
 onTurn qs (going ps os c) = passed qs ps os
@@ -63,7 +69,7 @@ onChain s room h (fault c p) = refused c p 0
 
 abbrev pub onOpened : List ℕ → ℕ → Opened → Verdict
 onOpened s room (opened.Good h) = onChain s room h (chain s (length s) 100)
-onOpened s room (opened.Refused c) = refused c 0 0
+onOpened s room (opened.Refused c) = refusedAs (openAnswer (opened.Refused c))
 
 unfoldable pub verdict : List ℕ → ℕ → Verdict
 verdict s room = onOpened s room (openedAs s)
@@ -92,7 +98,3 @@ partsOf (refused c p n) = []
 abbrev pub ownersOf : Verdict → List ℕ
 ownersOf (passed qs ps os) = os
 ownersOf (refused c p n) = []
-
--- a table t afterwards: the rows, then zeros to its own end
-abbrev pub tableOf : List ℕ → List ℕ → List ℕ
-tableOf xs t = xs ++ replicate (length t - length xs) 0

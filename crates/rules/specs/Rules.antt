@@ -19,7 +19,8 @@ use Rattle.directory.specs.declared.Dir.the-variants.{Held}
 use Rattle.directory.specs.declared.DirHead.{DirHead}
 use Rattle.fileheader.specs.declared.FileHead.{FileHead}
 use Rattle.rules.specs.Entry.{entryFits, listedPart}
-use Rattle.rules.specs.Free.{gapOf, freeHolds, infoHolds}
+use Rattle.rules.specs.Free.{isGap, Free, infoHolds}
+use Rattle.rules.specs.Part.{gap, head, free, info, keys, listed, dir, unlisted}
 use Rattle.rules.specs.Row.{starts}
 
 abbrev pub Iff : Type 0 → Type 0 → Type 0
@@ -43,7 +44,7 @@ abbrev pub Entries : List ℕ → List ℕ → ℕ → ℕ → List Key → Type
 Entries s qs d c [] = Unit
 Entries s qs d c (k ∷ ks) = All (entryFits s qs d c k) × Entries s qs d (c + k .keylen) ks
 
--- Keys list: start and size of the list's record, and its data NKeys, then exactly NKeys copies
+-- Keys list: SeekKeys and NbytesKeys are start and size of the list's record; its data is NKeys, then exactly NKeys copies
 pub record Filled (s qs : List ℕ) (d : ℕ) (dh : DirHead) (ks : List Key) : Type 0 where
   pub from : ℕ
   pub end : ℕ
@@ -54,7 +55,7 @@ pub record Filled (s qs : List ℕ) (d : ℕ) (dh : DirHead) (ks : List Key) : T
   pub copies : Copies s end (from + 4) ks
   pub entries : Entries s qs d (from + 4) ks
 
--- the directory at d, of header dh, obeys Keys list and Copy, and its list has exactly the copies ks
+-- the directory at d, of header dh, is empty or obeys Keys list and Copy; its list has exactly the copies ks
 abbrev pub KeysAre : List ℕ → List ℕ → ℕ → DirHead → List Key → Type 0
 KeysAre s qs d dh ks = (All (noKeys dh) × (ks ≡ [])) ⊎ Filled s qs d dh ks
 
@@ -64,10 +65,10 @@ places ks = map (λ (k : Key). k .seekkey) ks
 
 -- parts of directories, and of listed records
 abbrev pub Directory : ℕ → Type 0
-Directory k = (k ≡ 1) ⊎ (k ≡ 6)
+Directory k = (k ≡ head) ⊎ (k ≡ dir)
 
 abbrev pub Listed : ℕ → Type 0
-Listed k = (k ≡ 5) ⊎ (k ≡ 6)
+Listed k = (k ≡ listed) ⊎ (k ≡ dir)
 
 -- taking the owner again and again arrives at 100
 pub data Leads (qs os : List ℕ) : ℕ → Type 0 where
@@ -75,13 +76,26 @@ pub data Leads (qs os : List ℕ) : ℕ → Type 0 where
   up : {p : ℕ} (i : ℕ) → i < length qs → getD qs i 0 ≡ p → Leads qs os (getD os i 0) → Leads qs os p
 
 module _ (s : List ℕ) (h : FileHead) (qs ps os : List ℕ) where
-  -- the piece numbered `row` starts at d and is a directory, and dh is its header
+  -- start, part and owner of the piece in row i
+  abbrev start : ℕ → ℕ
+  start i = getD qs i 0
+
+  abbrev part : ℕ → ℕ
+  part i = getD ps i 0
+
+  abbrev owner : ℕ → ℕ
+  owner i = getD os i 0
+
+  abbrev IsRow : ℕ → Type 0
+  IsRow i = i < length qs
+
+  -- the piece in a row starts at d and is a directory, and dh is its header
   pub record DirectoryAt (d : ℕ) (dh : DirHead) : Type 0 where
     pub row : ℕ
-    pub within : row < length qs
-    pub here : getD qs row 0 ≡ d
-    pub part : Directory (getD ps row 0)
-    pub header : dirOf s h d (getD os row 0) ≡ Held dh
+    pub within : IsRow row
+    pub here : start row ≡ d
+    pub is : Directory (part row)
+    pub header : dirOf s h d (owner row) ≡ Held dh
 
   -- at d stands a directory whose SeekKeys is p
   abbrev pub KeysOf : ℕ → ℕ → Type 0
@@ -92,34 +106,34 @@ module _ (s : List ℕ) (h : FileHead) (qs ps os : List ℕ) where
   Lists d p = (dh : DirHead) × (ks : List Key) × DirectoryAt d dh × KeysAre s qs d dh ks × In p (places ks)
 
   pub record Rules : Type 0 where
-    -- a part and an owner beside each piece of the partition, numbered as in "Numbers given back"
+    -- a part and an owner beside each piece of the partition
     pub parts : length ps ≡ length qs
     pub owners : length os ≡ length qs
     -- no other parts. A piece has one part, so no record is two of head, free list, info, keys list, listed; a record that is
-    -- none of them is 7, unlisted
-    pub known : (i : ℕ) → i < length qs → getD ps i 0 ≤ 7
+    -- none of them is unlisted
+    pub known : (i : ℕ) → IsRow i → part i ≤ unlisted
     -- Head, Free list, Info
-    pub head : (dh : DirHead) × (headIn s (h .nbytesname) ≡ Held dh)
-    pub free : freeHolds s qs h ≡ true
-    pub info : infoHolds s qs h ≡ true
+    pub headRule : (dh : DirHead) × (headIn s (h .nbytesname) ≡ Held dh)
+    pub freeRule : Free s qs h
+    pub infoRule : infoHolds s qs h ≡ true
     -- a gap is exactly part 0
-    pub gap : (i : ℕ) → i < length qs → Iff (getD ps i 0 ≡ 0) (gapOf (pieceAt s (getD qs i 0)) ≡ 0 → ⊥)
+    pub gapPart : (i : ℕ) → IsRow i → Iff (part i ≡ gap) (isGap (pieceAt s (start i)) ≡ true)
     -- head, free list and info are the records at 100, SeekFree and, where it is not 0 (no piece starts at 0), SeekInfo
-    pub headPart : (i : ℕ) → i < length qs → Iff (getD ps i 0 ≡ 1) (getD qs i 0 ≡ 100)
-    pub freePart : (i : ℕ) → i < length qs → Iff (getD ps i 0 ≡ 2) (getD qs i 0 ≡ h .seekfree)
-    pub infoPart : (i : ℕ) → i < length qs → Iff (getD ps i 0 ≡ 3) (getD qs i 0 ≡ h .seekinfo)
-    -- Directory header, Keys list, Copy: each directory (the head, part 1, and every part 6) obeys them
-    pub directory : (i : ℕ) → i < length qs → Directory (getD ps i 0)
-        → (dh : DirHead) × (ks : List Key) × (dirOf s h (getD qs i 0) (getD os i 0) ≡ Held dh) × KeysAre s qs (getD qs i 0) dh ks
+    pub headPart : (i : ℕ) → IsRow i → Iff (part i ≡ head) (start i ≡ 100)
+    pub freePart : (i : ℕ) → IsRow i → Iff (part i ≡ free) (start i ≡ h .seekfree)
+    pub infoPart : (i : ℕ) → IsRow i → Iff (part i ≡ info) (start i ≡ h .seekinfo)
+    -- Directory header, Keys list, Copy: each directory, the head and every listed one, obeys them
+    pub directory : (i : ℕ) → IsRow i → Directory (part i)
+        → (dh : DirHead) × (ks : List Key) × (dirOf s h (start i) (owner i) ≡ Held dh) × KeysAre s qs (start i) dh ks
     -- a record is a keys list with owner d exactly when at d stands a directory whose SeekKeys is the record's place
-    pub keys : (i d : ℕ) → i < length qs → Iff ((getD ps i 0 ≡ 4) × (getD os i 0 ≡ d)) (KeysOf d (getD qs i 0))
+    pub keysPart : (i d : ℕ) → IsRow i → Iff ((part i ≡ keys) × (owner i ≡ d)) (KeysOf d (start i))
     -- it is listed with owner d exactly when at d stands a directory whose keys list copies it
-    pub listed : (i d : ℕ) → i < length qs → Iff (Listed (getD ps i 0) × (getD os i 0 ≡ d)) (Lists d (getD qs i 0))
-    -- every listed record of class TDirectory is part 6, other listed records are 5
-    pub class : (i : ℕ) → i < length qs → Listed (getD ps i 0) → getD ps i 0 ≡ listedPart s (getD qs i 0)
+    pub copied : (i d : ℕ) → IsRow i → Iff (Listed (part i) × (owner i ≡ d)) (Lists d (start i))
+    -- every listed record of class TDirectory is a directory
+    pub class : (i : ℕ) → IsRow i → Listed (part i) → part i ≡ listedPart s (start i)
     -- none is copied twice: not by one directory; by two, it would have two owners
     pub once : (d : ℕ) (dh : DirHead) (ks : List Key) → DirectoryAt d dh → KeysAre s qs d dh ks → Distinct (places ks)
-    -- owner is the directory's place for 4, 5, 6, else 0
-    pub noOwner : (i : ℕ) → i < length qs → (getD ps i 0 ≤ 3) ⊎ (getD ps i 0 ≡ 7) → getD os i 0 ≡ 0
+    -- owner is the directory's place for keys lists and listed records, else 0
+    pub noOwner : (i : ℕ) → IsRow i → (part i ≤ info) ⊎ (part i ≡ unlisted) → owner i ≡ 0
     -- from every listed record the owners lead to 100
-    pub leads : (i : ℕ) → i < length qs → Listed (getD ps i 0) → Leads qs os (getD qs i 0)
+    pub leads : (i : ℕ) → IsRow i → Listed (part i) → Leads qs os (start i)

@@ -3,16 +3,31 @@ use mathlib.Core.Path.{_∙_, sym}
 use denote.Ref.{now}
 use lib.Seq.{length-take-le}
 use Rattle.rules.proofs.Chains.{opened-long}
-use Rattle.audit.proofs.Verdicts.{header-refused, chain-refused, Entire, entire, entire-kept, Fits, entire-fits, entire-seven, entire-tables, entire-stops, entire-passes}
+use Rattle.audit.proofs.Verdicts.{header-refused, chain-refused, Entire, entire, entire-kept, Fits, entire-fits, entire-seven}
+use Rattle.audit.proofs.Verdicts.{entire-tables, entire-stops, entire-passes}
 use borrow.Author.Needs.{needs}
 use Rattle.audit.proofs.examine.Statement.{statement}
 use Rattle.audit.proofs.examine.Tie as tie
 
-whole : (c : tie.Else1) → Entire (now (c .before .before .before .before .before .before .before .before .before .before .before .before .before .before .before .before .before .before .args .file)) (c .before .before .before .before .before .before .before .before .before .before .before .h .given .0 .0) (now (c .before .before .before .before .before .before .before .before .before .before .before .before .before .before .before .before .before .before .args .start)) (c .before .before .before .before .before .before .before .before .walk .last .1 .0) (c .before .before .before .before .n .given .0 .0)
-whole c = entire _ _ _ (sym (c .before .before .before .before .before .before .before .before .before .before .before .h .given .1) ∙ c .before .before .before .before .before .before .before .before .before .before .before .before .before .«open» .ensures) (c .before .before .before .before .n .given .1) (c .before .before .before .before .before .before .before .before .walk .ensures)
+-- the chain that was walked, and the room for it
+whole : (c : tie.After-known-told3) →
+    let c5 = c .before .before .before .before .before in
+    let c8 = c5 .before .before .before in
+    let c15 = c8 .before .before .before .before .before .before .before in
+    let a = c15 .args in
+    Entire (now (a .file)) (c8 .h .given .0 .0) (now (a .start)) (c5 .walk .last .1 .0) (c .before .n .given .0 .0)
+whole c =
+    let c5 = c .before .before .before .before .before in
+    let c8 = c5 .before .before .before in
+    let c10 = c8 .before .before in
+    entire _ _ _ (sym (c8 .h .given .1) ∙ c10 .«open» .ensures .is) (c .before .n .given .1) (c5 .walk .ensures)
 
-room : (c : tie.Else1) → Fits (c .before .before .before .before .n .given .0 .0) (now (c .before .before .before .before .before .before .before .before .before .before .before .before .before .before .before .before .before .before .args .start)) (now (c .before .before .before .before .before .before .before .before .before .before .before .before .before .before .before .before .before .before .args .part)) (now (c .before .before .before .before .before .before .before .before .before .before .before .before .before .before .before .before .before .before .args .owner))
-room c = entire-fits (whole c) _ _ (c .before .least2 .ensures) (c .before .before .least .ensures) (c .if1 .left)
+room : (c : tie.Else1) →
+    let c4 = c .before .before .before .before in
+    let c18 = c4 .before .before .before .before .before .before .before .before .before .before .before .before .before .before in
+    let a = c18 .args in
+    Fits (c4 .n .given .0 .0) (now (a .start)) (now (a .part)) (now (a .owner))
+room c = entire-fits (whole (c .before .before .before)) _ _ (c .before .least2 .ensures) (c .before .before .least .ensures) (c .if1 .left)
 
 open-requires : tie.Need-open-requires
 open-requires c κs = search needs
@@ -23,14 +38,17 @@ enum-known-h c = search needs
 enum-known-c : tie.Need-enum-known-c
 enum-known-c c = search needs
 
-refuse-requires : tie.Need-refuse-requires
-refuse-requires c κs = search needs
+cast-refused : tie.Need-cast-refused
+cast-refused c = search needs
+
+refused-requires : tie.Need-refused-requires
+refused-requires c κs = search needs
 
 returns : tie.Need-returns
-returns c = header-refused _ _ _ _ _ (sym (c .before .before .c .given .1) ∙ c .before .before .before .before .«open» .ensures) (c .refuse .ensures)
+returns c = header-refused _ _ _ _ _ (sym (c .before .before .c .given .1) ∙ c .before .before .before .before .«open» .ensures .is) (c .refused .ensures)
 
 walk-requires : tie.Need-walk-requires
-walk-requires c κs = opened-long _ (sym (c .before .before .before .before .«open» .ensures) ∙ c .before .before .h .given .1)
+walk-requires c κs = opened-long _ (sym (c .before .before .before .before .«open» .ensures .is) ∙ c .before .before .h .given .1)
 
 enum-known-n : tie.Need-enum-known-n
 enum-known-n c = search needs
@@ -38,14 +56,22 @@ enum-known-n c = search needs
 enum-known-c-2 : tie.Need-enum-known-c-2
 enum-known-c-2 c = search needs
 
-refuse-requires-2 : tie.Need-refuse-requires-2
-refuse-requires-2 c κs = search needs
+cast-refused-2 : tie.Need-cast-refused-2
+cast-refused-2 c = search needs
+
+refused-requires-2 : tie.Need-refused-requires-2
+refused-requires-2 c κs = search needs
 
 same-length : tie.Need-same-length
 same-length c = search needs
 
 returns-2 : tie.Need-returns-2
-returns-2 c = chain-refused _ _ _ _ _ _ (sym (c .before .before .before .before .before .before .before .before .before .h .given .1) ∙ c .before .before .before .before .before .before .before .before .before .before .before .«open» .ensures) (c .before .before .c2 .given .1) (c .before .before .before .before .before .before .walk .ensures) (c .refuse2 .ensures)
+returns-2 c =
+    let c6 = c .before .before .before .before .before .before in
+    let c9 = c6 .before .before .before in
+    let c11 = c9 .before .before in
+    chain-refused _ _ _ _ _ _ (sym (c9 .h .given .1) ∙ c11 .«open» .ensures .is) (c .before .before .c2 .given .1)
+    (c6 .walk .ensures) (c .refused2 .ensures)
 
 least-requires : tie.Need-least-requires
 least-requires c κs = search needs
@@ -57,13 +83,17 @@ same-length-2 : tie.Need-same-length-2
 same-length-2 c = search needs
 
 returns-3 : tie.Need-returns-3
-returns-3 c = let a = c .before .before .before .before .before .before .before .before .before .before .before .before .before .before .before .before .before .before .args in entire-seven (entire _ _ _ (sym (c .before .before .before .before .before .before .before .before .before .before .before .h .given .1) ∙ c .before .before .before .before .before .before .before .before .before .before .before .before .before .«open» .ensures) (c .before .before .before .before .n .given .1) (c .before .before .before .before .before .before .before .before .walk .ensures)) (now (a .part)) (now (a .owner)) (c .before .least2 .ensures) (c .before .before .least .ensures) _ _ (c .if1 .taken)
+returns-3 c =
+    let c3 = c .before .before .before in
+    let c18 = c3 .before .before .before .before .before .before .before .before .before .before .before .before .before .before .before in
+    let a = c18 .args in
+    entire-seven (whole c3) (now (a .part)) (now (a .owner)) (c .before .least2 .ensures) (c .before .before .least .ensures) _ _ (c .if1 .taken)
 
 slice-reshare-prefix-survey : tie.Need-slice-reshare-prefix-survey
-slice-reshare-prefix-survey c = omega (arith, room c .starts, entire-kept (whole c))
+slice-reshare-prefix-survey c = omega (arith, room c .starts, entire-kept (whole (c .before .before .before)))
 
 slice-aggregate-survey : tie.Need-slice-aggregate-survey
-slice-aggregate-survey c = sym (length-take-le _ _ (omega (arith, room (c .before) .starts, entire-kept (whole (c .before)))))
+slice-aggregate-survey c = sym (length-take-le _ _ (omega (arith, room (c .before) .starts, entire-kept (whole (c .before .before .before .before)))))
 
 slice-relend-prefix-survey : tie.Need-slice-relend-prefix-survey
 slice-relend-prefix-survey c = room (c .before) .parts
@@ -78,16 +108,22 @@ slice-aggregate-survey-3 : tie.Need-slice-aggregate-survey-3
 slice-aggregate-survey-3 c = sym (length-take-le _ _ (room (c .before .before .before) .owners))
 
 survey-requires : tie.Need-survey-requires
-survey-requires c κs = entire-tables (whole (c .before .before .before)) (room (c .before .before .before))
+survey-requires c κs = entire-tables (whole (c .before .before .before .before .before .before)) (room (c .before .before .before))
 
 enum-told : tie.Need-enum-told
 enum-told c = search needs
 
+finished-requires : tie.Need-finished-requires
+finished-requires c κs = search needs
+
 enum-known-c-3 : tie.Need-enum-known-c-3
 enum-known-c-3 c = search needs
 
-refuse-requires-3 : tie.Need-refuse-requires-3
-refuse-requires-3 c κs = search needs
+cast-refused-3 : tie.Need-cast-refused-3
+cast-refused-3 c = search needs
+
+refused-requires-3 : tie.Need-refused-requires-3
+refused-requires-3 c κs = search needs
 
 same-length-3 : tie.Need-same-length-3
 same-length-3 c = search needs
@@ -99,7 +135,15 @@ same-length-5 : tie.Need-same-length-5
 same-length-5 c = search needs
 
 returns-4 : tie.Need-returns-4
-returns-4 c = entire-passes (whole (c .before .before .before .before .before .before .before .before .before .before)) (room (c .before .before .before .before .before .before .before .before .before .before)) (c .before .before .before .before .before .before .survey .last .1 .1 .0) (c .before .before .before .before .before .before .survey .last .1 .1 .1 .0) _ _ (c .before .before .before .before .before .part .given .0) (c .before .before .before .owner .given .0) (c .enum-told .given .1) (c .before .before .before .before .before .before .survey .ensures)
+returns-4 c =
+    let c4 = c .before .before .before .before in
+    let c6 = c4 .before .before in
+    let c7 = c6 .before in
+    let c11 = c7 .before .before .before .before in
+    let c14 = c11 .before .before .before in
+    let s = c7 .survey in
+    entire-passes (whole c14) (room c11) (s .last .1 .1 .0) (s .last .1 .1 .1 .0) _ _
+    (c6 .part .given .0) (c4 .owner .given .0) (c .before .enum-told .given .1) (s .ensures) (c .finished .ensures)
 
 same-length-6 : tie.Need-same-length-6
 same-length-6 c = search needs
@@ -111,7 +155,11 @@ same-length-8 : tie.Need-same-length-8
 same-length-8 c = search needs
 
 returns-5 : tie.Need-returns-5
-returns-5 c = entire-stops (whole (c .before .before .before .before .before .before .before .before .before .before .before .before)) (room (c .before .before .before .before .before .before .before .before .before .before .before .before)) _ _ _ _ (c .before .before .c3 .given .1) (c .before .before .before .before .before .before .before .before .survey .ensures) (c .refuse3 .ensures)
+returns-5 c =
+    let c8 = c .before .before .before .before .before .before .before .before in
+    let c12 = c8 .before .before .before .before in
+    let c15 = c12 .before .before .before in
+    entire-stops (whole c15) (room c12) _ _ _ _ (c .before .before .c3 .given .1) (c8 .survey .ensures) (c .refused3 .ensures)
 
 pub examine-spec : {M : Type 1} → statement M
 examine-spec =
@@ -120,12 +168,14 @@ examine-spec =
     open-requires
     enum-known-h
     enum-known-c
-    refuse-requires
+    cast-refused
+    refused-requires
     returns
     walk-requires
     enum-known-n
     enum-known-c-2
-    refuse-requires-2
+    cast-refused-2
+    refused-requires-2
     same-length
     returns-2
     least-requires
@@ -140,8 +190,10 @@ examine-spec =
     slice-aggregate-survey-3
     survey-requires
     enum-told
+    finished-requires
     enum-known-c-3
-    refuse-requires-3
+    cast-refused-3
+    refused-requires-3
     same-length-3
     same-length-4
     same-length-5

@@ -15,7 +15,17 @@ same-length-3 : tie.Need-same-length-3
 same-length-3 c = search needs
 
 returns : tie.Need-returns
-returns c = c .before .before .before .before .before .before .audit .ensures
+returns c =
+    let u = c .before .before .before .before .before .before .audit .ensures in
+    record {
+      number = u .number;
+      place = u .place;
+      count = u .count;
+      starts = u .starts;
+      parts = u .parts;
+      owners = u .owners;
+      demand = u .demand;
+    }
 
 pub rootmap-audit-spec : {M : Type 1} → statement M
 rootmap-audit-spec = tie.close (tie.spec audit-requires same-length same-length-2 same-length-3 returns)

@@ -1,4 +1,4 @@
-use Rattle.listing.proofs.Listings.{is-long, is-listed}
+use Rattle.listing.proofs.Listings.{is-long, zeros, is-listed}
 use borrow.Author.Needs.{needs}
 use Rattle.listing.proofs.list.Statement.{statement}
 use Rattle.listing.proofs.list.Tie as tie
@@ -43,7 +43,11 @@ same-length-2 : tie.Need-same-length-2
 same-length-2 c = search needs
 
 returns-2 : tie.Need-returns-2
-returns-2 c = is-listed _ _ (c .before .before .before .before .before .before .before .before .before .before .audit .result) (c .before .before .before .before .before .before .before .before .before .before .audit .ensures) (c .before .before .before .before .before .before .before .before .before .before .before .before .before .before .if1 .left) (c .before .before .write-report .ensures)
+returns-2 c =
+    let c10 = c .before .before .before .before .before .before .before .before .before .before in
+    let c14 = c10 .before .before .before .before in
+    is-listed (c10 .audit .ensures) zeros zeros zeros
+    (c14 .if1 .left) _ (c .before .before .write-report .ensures)
 
 pub list-spec : {M : Type 1} → statement M
 list-spec =

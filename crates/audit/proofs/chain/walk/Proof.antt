@@ -30,7 +30,9 @@ same-length : tie.Need-same-length Inv-loop μ-loop
 same-length c = kept (c .before .before .before .before .loop .inv)
 
 returns : tie.Need-returns Inv-loop μ-loop
-returns c = rw (c .enum-told .given .1) (faulted (c .before .before .before .before .loop .inv) (omega arith) (sym (c .enum-told .given .1) ∙ c .before .before .size-at .ensures))
+returns c =
+    let c4 = c .before .before .before .before in
+    rw (c .enum-told .given .1) (faulted (c4 .loop .inv) (omega arith) (sym (c .enum-told .given .1) ∙ c .before .before .size-at .ensures))
 
 cast-start : tie.Need-cast-start Inv-loop μ-loop
 cast-start c = search needs

@@ -4,20 +4,23 @@ use borrow.Author.Needs.{needs}
 use Rattle.audit.proofs.Listings.{tables-kept, Copying, began, copied, cut-short, all-copied, told-row, found-low}
 use Rattle.audit.proofs.keys.list_copies.Statement.{statement}
 use Rattle.audit.proofs.keys.list_copies.Tie as tie
-use Rattle.audit.proofs.keys.found_row.Reads as found-row-reads
-use Rattle.audit.proofs.keys.one_copy.Reads as one-copy-reads
 
 abbrev Inv-loop : tie.InvT-loop
-Inv-loop file start part₀ owner₀ dir seek end from count at₀ left₀ low₀ near₀ part owner at left low near = Copying file start dir seek end count part₀ owner₀ from left part owner at low
+Inv-loop file start part₀ owner₀ list from count at₀ left₀ low₀ near₀ part owner at left low near =
+    Copying file start (list .dir) (list .seek) (list .end) count part₀ owner₀ from left part owner at low
 
 abbrev μ-loop : tie.MeasureT-loop
-μ-loop file start part₀ owner₀ dir seek end from count at₀ left₀ low₀ near₀ part owner at left low near = left
+μ-loop file start part₀ owner₀ list from count at₀ left₀ low₀ near₀ part owner at left low near = left
 
 loop-holds : tie.Need-loop-holds Inv-loop μ-loop
 loop-holds c = began _ _ _ _ _ _ _ _ _ _
 
 one-copy-requires : tie.Need-one-copy-requires Inv-loop μ-loop
-one-copy-requires c κs = let w = c .before .before .before .loop .inv in tables-kept (c .before .before .before .before .before .before .before .before .pre) (w .parts) (w .owners)
+one-copy-requires c κs =
+    let c3 = c .before .before .before in
+    let c8 = c3 .before .before .before .before .before in
+    let w = c3 .loop .inv in
+    tables-kept (c8 .pre) (w .parts) (w .owners)
 
 enum-known-r : tie.Need-enum-known-r Inv-loop μ-loop
 enum-known-r c = search needs
@@ -32,19 +35,37 @@ same-length-2 : tie.Need-same-length-2 Inv-loop μ-loop
 same-length-2 c = search needs
 
 returns : tie.Need-returns Inv-loop μ-loop
-returns c = cut-short (c .before .before .before .before .before .before .before .before .before .before .loop .inv) (omega arith) _ _ _ (c .enum-told .given .1) (c .before .before .before .before .before .before .one-copy .ensures .0)
+returns c =
+    let c6 = c .before .before .before .before .before .before in
+    let c10 = c6 .before .before .before .before in
+    cut-short (c10 .loop .inv) (omega arith) _ _ _ (c .enum-told .given .1) (c6 .one-copy .ensures .0)
 
 mul-found-row : tie.Need-mul-found-row Inv-loop μ-loop
-mul-found-row c = let t = told-row _ _ (c .before .r .given .1) (c .before .before .before .before .before .before .before .one-copy .ensures .1) in let k = c .before .before .before .before .before .before .before .one-copy .kept in let w = c .before .before .before .before .before .before .before .before .before .before .before .loop .inv in omega (arith, t .0, w .parts, k .1 .1 .0, c .before .before .before .before .before .before .before .before .before .before .before .before .before .before .before .before .good)
+mul-found-row c =
+    let c7 = c .before .before .before .before .before .before .before in
+    let c11 = c7 .before .before .before .before in
+    let c16 = c11 .before .before .before .before .before in
+    let t = told-row _ _ (c .before .r .given .1) (c7 .one-copy .ensures .1) in let k = c7 .one-copy .kept in let w =
+    c11 .loop .inv in omega (arith, t .0, w .parts, k .1 .1 .0, c16 .good)
 
 slice-read-found-row : tie.Need-slice-read-found-row Inv-loop μ-loop
-slice-read-found-row c = let t = told-row _ _ (c .before .before .r .given .1) (c .before .before .before .before .before .before .before .before .one-copy .ensures .1) in let k = c .before .before .before .before .before .before .before .before .one-copy .kept in let w = c .before .before .before .before .before .before .before .before .before .before .before .before .loop .inv in omega (arith, t .0)
+slice-read-found-row c =
+    let c8 = c .before .before .before .before .before .before .before .before in
+    let c12 = c8 .before .before .before .before in
+    let t = told-row _ _ (c .before .before .r .given .1) (c8 .one-copy .ensures .1) in let k = c8 .one-copy .kept in let w =
+    c12 .loop .inv in omega (arith, t .0)
 
 found-row-requires : tie.Need-found-row-requires Inv-loop μ-loop
 found-row-requires c κs = search needs
 
 add-near : tie.Need-add-near Inv-loop μ-loop
-add-near c = let t = told-row _ _ (c .before .before .before .before .r .given .1) (c .before .before .before .before .before .before .before .before .before .before .one-copy .ensures .1) in let k = c .before .before .before .before .before .before .before .before .before .before .one-copy .kept in let w = c .before .before .before .before .before .before .before .before .before .before .before .before .before .before .loop .inv in omega (arith, t .0, w .parts, k .1 .1 .0, c .before .before .before .before .before .before .before .before .before .before .before .before .before .before .before .before .before .before .before .good)
+add-near c =
+    let c4 = c .before .before .before .before in
+    let c10 = c4 .before .before .before .before .before .before in
+    let c14 = c10 .before .before .before .before in
+    let c19 = c14 .before .before .before .before .before in
+    let t = told-row _ _ (c4 .r .given .1) (c10 .one-copy .ensures .1) in let k = c10 .one-copy .kept in let w =
+    c14 .loop .inv in omega (arith, t .0, w .parts, k .1 .1 .0, c19 .good)
 
 sub-left : tie.Need-sub-left Inv-loop μ-loop
 sub-left c = search needs
@@ -53,8 +74,12 @@ loop-less : tie.Need-loop-less Inv-loop μ-loop
 loop-less c = search needs
 
 loop-again : tie.Need-loop-again Inv-loop μ-loop
-loop-again c = let k = c .before .before .before .before .before .before .before .before .before .before .one-copy .kept in
-    copied (c .before .before .before .before .before .before .before .before .before .before .before .before .before .before .loop .inv) (omega arith) _ _ _ _ (c .before .before .before .before .r .given .1) (c .before .before .before .before .before .before .before .before .before .before .one-copy .ensures) (k .1 .1 .0) (k .1 .1 .1 .0)
+loop-again c =
+    let c4 = c .before .before .before .before in
+    let c10 = c4 .before .before .before .before .before .before in
+    let c14 = c10 .before .before .before .before in
+    let k = c10 .one-copy .kept in
+    copied (c14 .loop .inv) (omega arith) _ _ _ _ (c4 .r .given .1) (c10 .one-copy .ensures) (k .1 .1 .0) (k .1 .1 .1 .0)
     (⊎-elim (λ x. omega (arith, x)) (λ x. omega (arith, x)) (c .if1 .came))
     (λ h. found-low _ _ _ _ _ (c .before .found-row .ensures) (⊎-elim (λ x. omega (arith, x)) (λ x. omega (arith, x)) (c .if1 .came)) h)
 

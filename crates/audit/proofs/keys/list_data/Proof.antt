@@ -1,18 +1,25 @@
 use native.Mathlib.Omega.{arith}
-use denote.Ref.{now}
+use Prim.Native.Nat.{_+_, _≤_}
 use Rattle.audit.proofs.Listings.{faulted}
 use Rattle.audit.proofs.Turns.{data-short, data-fault, data-left, data-ended}
 use borrow.Author.Needs.{needs}
 use Rattle.audit.proofs.keys.list_data.Statement.{statement}
 use Rattle.audit.proofs.keys.list_data.Tie as tie
-use Rattle.audit.proofs.keys.list_copies.Reads as list-copies-reads
-use Rattle.wire.proofs.number.be32.Reads as be32-reads
+
+room : (c : tie.Else1)
+    → c .before .before .before .before .before .before .args .from + 4 ≤ c .before .before .before .before .before .before .args .list .end
+room c = omega (arith, c .if1 .left, c .before .before .before .before .before .before .pre)
 
 sub-if1 : tie.Need-sub-if1
 sub-if1 c = search needs
 
+cast-t12 : tie.Need-cast-t12
+cast-t12 c = search needs
+
 returns : tie.Need-returns
-returns c = let a = c .before .before .before .before .before .args in faulted _ _ _ _ _ (data-short (now (a .file)) (now (a .start)) (a .dir) (a .seek) (a .from) (a .end) (now (a .part)) (now (a .owner)) _ (omega (arith, c, c .before .before .before .before .before .pre)))
+returns c =
+    let c7 = c .before .before .before .before .before .before .before in
+    faulted _ _ _ _ _ (data-short _ _ _ _ _ _ _ _ _ (omega (arith, c .before .if1 .taken, c7 .pre)))
 
 be32-requires : tie.Need-be32-requires
 be32-requires c κs = search needs
@@ -36,7 +43,14 @@ same-length-2 : tie.Need-same-length-2
 same-length-2 c = search needs
 
 returns-2 : tie.Need-returns-2
-returns-2 c = let a = c .before .before .before .before .before .before .before .before .before .before .before .before .before .before .before .args in data-fault (now (a .file)) (now (a .start)) (a .dir) (a .seek) (a .from) (a .end) (now (a .part)) (now (a .owner)) _ (omega (arith, c .before .before .before .before .before .before .before .before .before .before, c .before .before .before .before .before .before .before .before .before .before .before .before .before .before .before .pre)) (c .before .before .before .before .before .before .before .before .before .be32 .ensures) _ _ _ (c .before .before .before .before .before .before .list-copies .ensures) (c .enum-told .given .1)
+returns-2 c =
+    let c6 = c .before .before .before .before .before .before in
+    let c9 = c6 .before .before .before in
+    let c10 = c9 .before in
+    data-fault _ _ _ _ _ _ _ _ _ (room c10) (c9 .be32 .ensures) _ _ _ (c6 .list-copies .ensures) (c .enum-told .given .1)
+
+cast-t17 : tie.Need-cast-t17
+cast-t17 c = search needs
 
 same-length-3 : tie.Need-same-length-3
 same-length-3 c = search needs
@@ -45,7 +59,13 @@ same-length-4 : tie.Need-same-length-4
 same-length-4 c = search needs
 
 returns-3 : tie.Need-returns-3
-returns-3 c = let a = c .before .before .before .before .before .before .before .before .before .before .before .before .before .before .before .before .before .args in data-left (now (a .file)) (now (a .start)) (a .dir) (a .seek) (a .from) (a .end) (now (a .part)) (now (a .owner)) _ (omega (arith, c .before .before .before .before .before .before .before .before .before .before .before .before, c .before .before .before .before .before .before .before .before .before .before .before .before .before .before .before .before .before .pre)) (c .before .before .before .before .before .before .before .before .before .before .before .be32 .ensures) _ _ _ (c .before .before .before .before .before .before .before .before .list-copies .ensures) (c .before .before .r .given .1) (c .if2 .taken)
+returns-3 c =
+    let c4 = c .before .before .before .before in
+    let c10 = c4 .before .before .before .before .before .before in
+    let c13 = c10 .before .before .before in
+    let c14 = c13 .before in
+    data-left _ _ _ _ _ _ _ _ _ (room c14) (c13 .be32 .ensures) _ _ _ (c10 .list-copies .ensures)
+    (c4 .r .given .1) (c .before .if2 .taken)
 
 same-length-5 : tie.Need-same-length-5
 same-length-5 c = search needs
@@ -54,13 +74,20 @@ same-length-6 : tie.Need-same-length-6
 same-length-6 c = search needs
 
 returns-4 : tie.Need-returns-4
-returns-4 c = let a = c .before .before .before .before .before .before .before .before .before .before .before .before .before .before .before .before .before .args in data-ended (now (a .file)) (now (a .start)) (a .dir) (a .seek) (a .from) (a .end) (now (a .part)) (now (a .owner)) _ (omega (arith, c .before .before .before .before .before .before .before .before .before .before .before .before, c .before .before .before .before .before .before .before .before .before .before .before .before .before .before .before .before .before .pre)) (c .before .before .before .before .before .before .before .before .before .before .before .be32 .ensures) _ _ _ (c .before .before .before .before .before .before .before .before .list-copies .ensures) (c .before .before .r .given .1) (c .if2 .left)
+returns-4 c =
+    let c3 = c .before .before .before in
+    let c9 = c3 .before .before .before .before .before .before in
+    let c12 = c9 .before .before .before in
+    let c13 = c12 .before in
+    data-ended _ _ _ _ _ _ _ _ _ (room c13) (c12 .be32 .ensures) _ _ _ (c9 .list-copies .ensures)
+    (c3 .r .given .1) (c .if2 .left)
 
 pub list-data-spec : {M : Type 1} → statement M
 list-data-spec =
     tie.close
     (tie.spec
     sub-if1
+    cast-t12
     returns
     be32-requires
     add-list-copies
@@ -70,6 +97,7 @@ list-data-spec =
     same-length
     same-length-2
     returns-2
+    cast-t17
     same-length-3
     same-length-4
     returns-3

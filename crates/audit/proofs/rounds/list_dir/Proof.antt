@@ -7,7 +7,6 @@ use Rattle.audit.proofs.rounds.list_dir.Statement.{statement}
 use Rattle.audit.proofs.rounds.list_dir.Tie as tie
 use Rattle.audit.proofs.keys.list_keys.Reads as list-keys-reads
 use Rattle.audit.proofs.rounds.read_dir.Reads as read-dir-reads
-use Rattle.audit.proofs.rows.long.Reads as long-reads
 
 mul-dir : tie.Need-mul-dir
 mul-dir c = search needs
@@ -34,7 +33,12 @@ long-requires : tie.Need-long-requires
 long-requires c κs = search needs
 
 returns : tie.Need-returns
-returns c = let a = c .before .before .before .before .before .before .before .before .before .before .args in faulted _ _ _ _ _ (dir-bad (now (a .file)) (a .head) (now (a .start)) (a .row) (now (a .part)) (now (a .owner)) (c .long .ensures .0) (sym (c .before .enum-told .given .1) ∙ c .before .before .before .read-dir .ensures))
+returns c =
+    let c3 = c .before .before .before in
+    let c10 = c3 .before .before .before .before .before .before .before in
+    let a = c10 .args in
+    faulted _ _ _ _ _ (dir-bad (now (a .file)) (a .head) (now (a .start)) (a .row) (now (a .part)) (now (a .owner)) (c .long .ensures .0)
+    (sym (c .before .enum-told .given .1) ∙ c3 .read-dir .ensures))
 
 list-keys-requires : tie.Need-list-keys-requires
 list-keys-requires c κs = search needs
@@ -46,7 +50,14 @@ same-length-2 : tie.Need-same-length-2
 same-length-2 c = search needs
 
 returns-2 : tie.Need-returns-2
-returns-2 c = let a = c .before .before .before .before .before .before .before .before .before .before .before .before .before .before .before .before .before .args in dir-held (now (a .file)) (a .head) (now (a .start)) (a .row) (now (a .part)) (now (a .owner)) _ _ _ (sym (c .before .before .before .before .before .before .before .before .d .given .1) ∙ c .before .before .before .before .before .before .before .before .before .before .read-dir .ensures) (c .before .before .before .before .list-keys .ensures)
+returns-2 c =
+    let c4 = c .before .before .before .before in
+    let c8 = c4 .before .before .before .before in
+    let c10 = c8 .before .before in
+    let c17 = c10 .before .before .before .before .before .before .before in
+    let a = c17 .args in
+    dir-held (now (a .file)) (a .head) (now (a .start)) (a .row) (now (a .part)) (now (a .owner)) _ _ _
+    (sym (c8 .d .given .1) ∙ c10 .read-dir .ensures) (c4 .list-keys .ensures)
 
 pub list-dir-spec : {M : Type 1} → statement M
 list-dir-spec =

@@ -26,10 +26,16 @@ same-length-2 : tie.Need-same-length-2 Inv-loop μ-loop
 same-length-2 c = search needs
 
 returns : tie.Need-returns Inv-loop μ-loop
-returns c = rounds-rest (c .before .before .before .before .loop .inv) (omega (arith, c .before .before .before)) (c .before .next-row .ensures) (c .if1 .taken)
+returns c = rounds-rest (c .before .before .before .before .loop .inv) (omega (arith, c .before .before .before)) (c .before .next-row .ensures)
+    (c .if1 .taken)
 
 take-dir-requires : tie.Need-take-dir-requires Inv-loop μ-loop
-take-dir-requires c κs = ready (c .before .before .before .before .before .before .loop .inv) (omega (arith, c .before .before .before .before .before)) (c .before .before .before .next-row .ensures) (c .before .before .if1 .left) (c .before .before .before .before .before .before .before .before .before .before .before .pre)
+take-dir-requires c κs =
+    let c3 = c .before .before .before in
+    let c5 = c3 .before .before in
+    let c6 = c5 .before in
+    let c11 = c6 .before .before .before .before .before in
+    ready (c6 .loop .inv) (omega (arith, c5)) (c3 .next-row .ensures) (c .before .before .if1 .left) (c11 .pre)
 
 enum-known-r : tie.Need-enum-known-r Inv-loop μ-loop
 enum-known-r c = search needs
@@ -44,7 +50,13 @@ same-length-4 : tie.Need-same-length-4 Inv-loop μ-loop
 same-length-4 c = search needs
 
 returns-2 : tie.Need-returns-2 Inv-loop μ-loop
-returns-2 c = rounds-fault (c .before .before .before .before .before .before .before .before .before .before .before .before .before .loop .inv) (omega (arith, c .before .before .before .before .before .before .before .before .before .before .before .before)) (c .before .before .before .before .before .before .before .before .before .before .next-row .ensures) (c .before .before .before .before .before .before .before .before .before .if1 .left) _ _ _ (c .before .before .before .before .before .before .take-dir .ensures) (c .enum-told .given .1)
+returns-2 c =
+    let c6 = c .before .before .before .before .before .before in
+    let c9 = c6 .before .before .before in
+    let c10 = c9 .before in
+    let c12 = c10 .before .before in
+    let c13 = c12 .before in
+    rounds-fault (c13 .loop .inv) (omega (arith, c12)) (c10 .next-row .ensures) (c9 .if1 .left) _ _ _ (c6 .take-dir .ensures) (c .enum-told .given .1)
 
 sub-left : tie.Need-sub-left Inv-loop μ-loop
 sub-left c = search needs
@@ -53,7 +65,15 @@ loop-less : tie.Need-loop-less Inv-loop μ-loop
 loop-less c = search needs
 
 loop-again : tie.Need-loop-again Inv-loop μ-loop
-loop-again c = let k = c .before .before .before .before .before .before .before .take-dir .kept in rounds-again (c .before .before .before .before .before .before .before .before .before .before .before .before .before .before .loop .inv) (omega (arith, c .before .before .before .before .before .before .before .before .before .before .before .before .before)) (c .before .before .before .before .before .before .before .before .before .before .before .next-row .ensures) (c .before .before .before .before .before .before .before .before .before .before .if1 .left) _ _ _ (c .before .before .before .before .before .before .before .take-dir .ensures) (c .before .r .given .1) (k .1 .1 .0) (k .1 .1 .1 .0)
+loop-again c =
+    let c7 = c .before .before .before .before .before .before .before in
+    let c10 = c7 .before .before .before in
+    let c11 = c10 .before in
+    let c13 = c11 .before .before in
+    let c14 = c13 .before in
+    let k = c7 .take-dir .kept in
+    rounds-again (c14 .loop .inv) (omega (arith, c13)) (c11 .next-row .ensures) (c10 .if1 .left) _ _ _ (c7 .take-dir .ensures)
+    (c .before .r .given .1) (k .1 .1 .0) (k .1 .1 .1 .0)
 
 same-length-5 : tie.Need-same-length-5 Inv-loop μ-loop
 same-length-5 c = search needs

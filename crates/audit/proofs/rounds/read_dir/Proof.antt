@@ -2,15 +2,12 @@ use Rattle.audit.proofs.Turns.{head-dir, sub-dir}
 use borrow.Author.Needs.{needs}
 use Rattle.audit.proofs.rounds.read_dir.Statement.{statement}
 use Rattle.audit.proofs.rounds.read_dir.Tie as tie
-use Rattle.audit.proofs.rows.long.Reads as long-reads
-use Rattle.directory.proofs.read_head.Reads as read-head-reads
-use Rattle.directory.proofs.read_sub.Reads as read-sub-reads
 
 read-head-requires : tie.Need-read-head-requires
 read-head-requires c κs = search needs
 
 returns : tie.Need-returns
-returns c = head-dir _ _ _ _ (c .before .if1 .taken) (c .read-head .ensures)
+returns c = head-dir _ _ _ _ (c .before .if1 .taken) (c .read-head .ensures .is)
 
 long-requires : tie.Need-long-requires
 long-requires c κs = search needs
@@ -22,7 +19,7 @@ read-sub-requires : tie.Need-read-sub-requires
 read-sub-requires c κs = search needs
 
 returns-2 : tie.Need-returns-2
-returns-2 c = sub-dir _ _ _ _ (c .before .before .before .if1 .left) (c .before .before .long .ensures .0) (c .before .long2 .ensures .0) (c .read-sub .ensures)
+returns-2 c = sub-dir _ _ _ _ (c .before .before .before .if1 .left) (c .before .before .long .ensures .0) (c .before .long2 .ensures .0) (c .read-sub .ensures .is)
 
 pub read-dir-spec : {M : Type 1} → statement M
 read-dir-spec =

@@ -29,7 +29,11 @@ same-length-2 : tie.Need-same-length-2
 same-length-2 c = search needs
 
 returns : tie.Need-returns
-returns c = let a = c .before .before .before .before .before .before .before .before .before .before .before .before .before .before .args in round-fault (now (a .file)) (a .head) (now (a .start)) (a .row) (now (a .part)) (now (a .owner)) _ _ _ (c .before .before .before .before .before .before .list-dir .ensures) (c .enum-told .given .1)
+returns c =
+    let c6 = c .before .before .before .before .before .before in
+    let c14 = c6 .before .before .before .before .before .before .before .before in
+    let a = c14 .args in
+    round-fault (now (a .file)) (a .head) (now (a .start)) (a .row) (now (a .part)) (now (a .owner)) _ _ _ (c6 .list-dir .ensures) (c .enum-told .given .1)
 
 sub-part : tie.Need-sub-part
 sub-part c = search needs
@@ -47,7 +51,14 @@ same-length-4 : tie.Need-same-length-4
 same-length-4 c = search needs
 
 returns-2 : tie.Need-returns-2
-returns-2 c = let a = c .before .before .before .before .before .before .before .before .before .before .before .before .before .before .before .before .args in let k = c .before .before .before .before .before .before .before .before .list-dir .kept in round-done (now (a .file)) (a .head) (now (a .start)) (a .row) (now (a .part)) (now (a .owner)) _ _ _ (c .before .before .before .before .before .before .before .before .list-dir .ensures) (c .before .before .r .given .1) _ _ refl (c .before .before .before .before .before .before .before .before .before .before .before .before .before .before .before .before .pre .2) (omega (arith, c .before .before .before .before .before .before .before .before .before .before .before .before .before .before .before .before .pre .1, c .before .before .before .before .before .before .before .before .before .before .before .before .before .before .before .before .pre .0 .parts)) (k .1 .1 .0) (omega (arith, c .if1)) (omega arith)
+returns-2 c =
+    let c8 = c .before .before .before .before .before .before .before .before in
+    let c16 = c8 .before .before .before .before .before .before .before .before in
+    let a = c16 .args in
+    let k = c8 .list-dir .kept in
+    round-done (now (a .file)) (a .head) (now (a .start)) (a .row) (now (a .part)) (now (a .owner)) _ _ _ (c8 .list-dir .ensures)
+    (c .before .before .r .given .1) _ _ refl (c16 .pre .2) (omega (arith, c16 .pre .1, c16 .pre .0 .parts)) (k .1 .1 .0) (omega (arith, c .if1))
+    (omega arith)
 
 same-length-5 : tie.Need-same-length-5
 same-length-5 c = search needs
@@ -56,7 +67,14 @@ same-length-6 : tie.Need-same-length-6
 same-length-6 c = search needs
 
 returns-3 : tie.Need-returns-3
-returns-3 c = let a = c .before .before .before .before .before .before .before .before .before .before .before .before .before .before .before .before .args in let k = c .before .before .before .before .before .before .before .before .list-dir .kept in round-done (now (a .file)) (a .head) (now (a .start)) (a .row) (now (a .part)) (now (a .owner)) _ _ _ (c .before .before .before .before .before .before .before .before .list-dir .ensures) (c .before .before .r .given .1) _ _ refl (c .before .before .before .before .before .before .before .before .before .before .before .before .before .before .before .before .pre .2) (omega (arith, c .before .before .before .before .before .before .before .before .before .before .before .before .before .before .before .before .pre .1, c .before .before .before .before .before .before .before .before .before .before .before .before .before .before .before .before .pre .0 .parts)) (k .1 .1 .0) (omega arith) (omega (arith, c .if1))
+returns-3 c =
+    let c8 = c .before .before .before .before .before .before .before .before in
+    let c16 = c8 .before .before .before .before .before .before .before .before in
+    let a = c16 .args in
+    let k = c8 .list-dir .kept in
+    round-done (now (a .file)) (a .head) (now (a .start)) (a .row) (now (a .part)) (now (a .owner)) _ _ _ (c8 .list-dir .ensures)
+    (c .before .before .r .given .1) _ _ refl (c16 .pre .2) (omega (arith, c16 .pre .1, c16 .pre .0 .parts)) (k .1 .1 .0) (omega arith)
+    (omega (arith, c .if1))
 
 pub take-dir-spec : {M : Type 1} → statement M
 take-dir-spec =

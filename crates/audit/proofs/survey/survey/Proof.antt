@@ -1,8 +1,35 @@
-use mathlib.Core.Path.{_∙_, sym}
-use Rattle.audit.proofs.Rulings.{no-head, no-free, no-info, go-on, ready, cleared}
+use mathlib.Core.Bool.{true}
+use mathlib.Core.Path.{_≡_, _∙_, sym}
+use denote.Ref.{now}
+use Rattle.directory.specs.Dir.{headIn}
+use Rattle.directory.specs.declared.Dir.the-variants.{Held}
+use Rattle.record.proofs.Tests.{passed}
+use Rattle.rules.specs.Free.{freeHolds, infoHolds}
+use Rattle.audit.proofs.Rulings.{no-head, no-free, no-info, go-on, ready, no-owners}
 use borrow.Author.Needs.{needs}
 use Rattle.audit.proofs.survey.survey.Statement.{statement}
 use Rattle.audit.proofs.survey.survey.Tie as tie
+
+-- what was found of head, free list and info
+held : (c : tie.After-enum-told) →
+    let c7 = c .before .before .before .before .before .before .before in
+    let a = c7 .args in
+    Held (c .enum-told .given .0 .0) ≡ headIn (now (a .file)) (a .head .nbytesname)
+held c = sym (c .enum-told .given .1) ∙ c .before .before .read-head .ensures .is
+
+free : (c : tie.Else1) →
+    let c9 = c .before .before .before .before .before .before .before .before .before in
+    let a = c9 .args in
+    freeHolds (now (a .file)) (now (a .start)) (a .head) ≡ true
+free c = passed _ _ (c .before .check-free .ensures (c .before .before .before .before .before .before .before .before .before .pre .rising)) (c .if1 .left)
+
+info : (c : tie.Else2) →
+    let c11 = c .before .before .before .before .before .before .before .before .before .before .before in
+    let a = c11 .args in
+    infoHolds (now (a .file)) (now (a .start)) (a .head) ≡ true
+info c =
+    let c11 = c .before .before .before .before .before .before .before .before .before .before .before in
+    passed _ _ (c .before .check-info .ensures (c11 .pre .rising)) (c .if2 .left)
 
 read-head-requires : tie.Need-read-head-requires
 read-head-requires c κs = search needs
@@ -14,25 +41,32 @@ enum-told-2 : tie.Need-enum-told-2
 enum-told-2 c = search needs
 
 returns : tie.Need-returns
-returns c = no-head _ _ _ _ _ (sym (c .enum-told2 .given .1) ∙ c .before .before .read-head .ensures)
+returns c = no-head _ _ _ _ _ (sym (c .enum-told2 .given .1) ∙ c .before .before .read-head .ensures .is)
 
 check-free-requires : tie.Need-check-free-requires
-check-free-requires c κs = c .before .before .before .before .before .before .before .pre .rising
+check-free-requires c κs = search needs
 
 cast-t9 : tie.Need-cast-t9
 cast-t9 c = search needs
 
 returns-2 : tie.Need-returns-2
-returns-2 c = no-free _ _ _ _ _ (sym (c .before .before .before .enum-told .given .1) ∙ c .before .before .before .before .before .read-head .ensures) (c .before .before .check-free .ensures) (c .before .if1 .taken)
+returns-2 c =
+    let c3 = c .before .before .before in
+    let c10 = c3 .before .before .before .before .before .before .before in
+    no-free _ _ _ _ _ (held c3) (c .before .before .check-free .ensures (c10 .pre .rising)) (c .before .if1 .taken)
 
 check-info-requires : tie.Need-check-info-requires
-check-info-requires c κs = c .before .before .before .before .before .before .before .before .before .pre .rising
+check-info-requires c κs = search needs
 
 cast-t10 : tie.Need-cast-t10
 cast-t10 c = search needs
 
 returns-3 : tie.Need-returns-3
-returns-3 c = no-info _ _ _ _ _ (sym (c .before .before .before .before .before .enum-told .given .1) ∙ c .before .before .before .before .before .before .before .read-head .ensures) (c .before .before .before .before .check-free .ensures) (c .before .before .before .if1 .left) (c .before .before .check-info .ensures) (c .before .if2 .taken)
+returns-3 c =
+    let c3 = c .before .before .before in
+    let c5 = c3 .before .before in
+    let c12 = c5 .before .before .before .before .before .before .before in
+    no-info _ _ _ _ _ (held c5) (free c3) (c .before .before .check-info .ensures (c12 .pre .rising)) (c .before .if2 .taken)
 
 first-parts-requires : tie.Need-first-parts-requires
 first-parts-requires c κs = c .before .before .before .before .before .before .before .before .before .before .before .before .pre .parts
@@ -41,7 +75,11 @@ clear-requires : tie.Need-clear-requires
 clear-requires c κs = search needs
 
 list-dirs-requires : tie.Need-list-dirs-requires
-list-dirs-requires c κs = ready _ _ (c .before .before .before .before .before .before .before .before .before .before .before .before .before .before .before .before .before .before .before .before .before .pre) (c .before .before .before .before .before .before .before .before .first-parts .ensures) (c .before .before .before .before .clear .ensures)
+list-dirs-requires c κs =
+    let c4 = c .before .before .before .before in
+    let c8 = c4 .before .before .before .before in
+    let c21 = c8 .before .before .before .before .before .before .before .before .before .before .before .before .before in
+    ready _ _ (c21 .pre) (c8 .first-parts .ensures) (c4 .clear .ensures)
 
 same-length : tie.Need-same-length
 same-length c = search needs
@@ -50,7 +88,16 @@ same-length-2 : tie.Need-same-length-2
 same-length-2 c = search needs
 
 returns-4 : tie.Need-returns-4
-returns-4 c = go-on _ _ _ _ _ (sym (c .before .before .before .before .before .before .before .before .before .before .before .before .before .before .before .before .before .before .before .enum-told .given .1) ∙ c .before .before .before .before .before .before .before .before .before .before .before .before .before .before .before .before .before .before .before .before .before .read-head .ensures) (c .before .before .before .before .before .before .before .before .before .before .before .before .before .before .before .before .before .before .check-free .ensures) (c .before .before .before .before .before .before .before .before .before .before .before .before .before .before .before .before .before .if1 .left) (c .before .before .before .before .before .before .before .before .before .before .before .before .before .before .before .before .check-info .ensures) _ _ _ (c .before .before .before .before .before .before .before .before .before .before .before .before .before .before .before .if2 .left) (c .before .before .before .before .before .before .before .before .before .before .before .before .before .first-parts .ensures) (cleared (c .before .before .before .before .before .before .before .before .before .before .before .before .before .before .before .before .before .before .before .before .before .before .before .before .before .before .pre) (c .before .before .before .before .before .before .before .before .before .clear .ensures)) (c .before .before .before .before .list-dirs .ensures)
+returns-4 c =
+    let c4 = c .before .before .before .before in
+    let c9 = c4 .before .before .before .before .before in
+    let c13 = c9 .before .before .before .before in
+    let c15 = c13 .before .before in
+    let c17 = c15 .before .before in
+    let c19 = c17 .before .before in
+    let c26 = c19 .before .before .before .before .before .before .before in
+    go-on _ _ _ _ _ (held c19) (free c17) _ _ _ (info c15) (c13 .first-parts .ensures)
+    (no-owners (c26 .pre) (c9 .clear .ensures)) (c4 .list-dirs .ensures)
 
 pub survey-spec : {M : Type 1} → statement M
 survey-spec =

@@ -39,7 +39,8 @@ returns : (t : ℕ) → lts.Need-returns (below t, reads.Post) (at-measure t) re
 returns t c = put-one (c .before .before .args .v) (c .if1 .taken) (c .before .before .pre .1)
 
 put-number-requires : (t : ℕ) → lts.Need-put-number-requires (below t, reads.Post) (at-measure t) reads.Post
-put-number-requires t c = λ _. let e = length-more (c .before .before .before .args .v) (omega arith) (omega arith) in (omega arith, record { fits = omega arith })
+put-number-requires t c = λ _. let e = length-more (c .before .before .before .args .v) (omega arith)
+    (omega arith) in (omega arith, record { fits = omega arith })
 
 cast-out-2 : (t : ℕ) → lts.Need-cast-out-2 (below t, reads.Post) (at-measure t) reads.Post
 cast-out-2 t c = search needs
@@ -48,16 +49,20 @@ add-out-2 : (t : ℕ) → lts.Need-add-out-2 (below t, reads.Post) (at-measure t
 add-out-2 t c = search needs
 
 slice-write-out-2 : (t : ℕ) → lts.Need-slice-write-out-2 (below t, reads.Post) (at-measure t) reads.Post
-slice-write-out-2 t c = let e = length-more (c .before .before .before .before .before .before .args .v) (omega arith) (omega arith) in omega (arith, c .before .before .put-number .ensures)
+slice-write-out-2 t c = let e = length-more (c .before .before .before .before .before .before .args .v) (omega arith)
+    (omega arith) in omega (arith, c .before .before .put-number .ensures)
 
 add-result-2 : (t : ℕ) → lts.Need-add-result-2 (below t, reads.Post) (at-measure t) reads.Post
-add-result-2 t c = let e = length-more (c .before .before .before .before .before .before .args .v) (omega arith) (omega arith) in omega (arith, c .before .before .put-number .ensures)
+add-result-2 t c = let e = length-more (c .before .before .before .before .before .before .args .v) (omega arith)
+    (omega arith) in omega (arith, c .before .before .put-number .ensures)
 
 same-length-2 : (t : ℕ) → lts.Need-same-length-2 (below t, reads.Post) (at-measure t) reads.Post
-same-length-2 t c = put-more (c .before .before .before .before .before .before .args .v) (omega arith) (omega arith) (c .before .before .before .before .before .before .pre .1) (c .before .before .put-number .ensures) .same
+same-length-2 t c = put-more (c .before .before .before .before .before .before .args .v) (omega arith) (omega arith)
+    (c .before .before .before .before .before .before .pre .1) (c .before .before .put-number .ensures) .same
 
 returns-2 : (t : ℕ) → lts.Need-returns-2 (below t, reads.Post) (at-measure t) reads.Post
-returns-2 t c = put-more (c .before .before .before .before .before .before .args .v) (omega arith) (omega arith) (c .before .before .before .before .before .before .pre .1) (c .before .before .put-number .ensures)
+returns-2 t c = put-more (c .before .before .before .before .before .before .args .v) (omega arith) (omega arith)
+    (c .before .before .before .before .before .before .pre .1) (c .before .before .put-number .ensures)
 
 pub +put-number-spec : {M : Type 1} → statement M
 +put-number-spec =

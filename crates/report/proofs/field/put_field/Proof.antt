@@ -17,7 +17,10 @@ same-length : tie.Need-same-length
 same-length c = search needs
 
 returns : tie.Need-returns
-returns c = let l = room-then (c .before .before .put-number .ensures) _ (c .before .before .before .before .before .pre) in put-byte (c .before .before .put-number .ensures) _ (omega (arith, c .before .before .put-number .ensures))
+returns c =
+    let c5 = c .before .before .before .before .before in
+    let l = room-then (c .before .before .put-number .ensures) _ (c5 .pre) in put-byte (c .before .before .put-number .ensures) _
+    (omega (arith, c .before .before .put-number .ensures))
 
 pub put-field-spec : {M : Type 1} → statement M
 put-field-spec =

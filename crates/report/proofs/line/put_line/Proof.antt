@@ -10,22 +10,38 @@ put-field-requires c κs = room-front _ (room-front _ (room-front _ (c .before .
 
 put-field-requires-2 : tie.Need-put-field-requires-2
 unfolding line spaced closed
-put-field-requires-2 c κs = room-then (c .before .before .before .put-field .ensures) _ (room-front _ (room-front _ (c .before .before .before .before .before .before .pre)))
+put-field-requires-2 c κs =
+    let c3 = c .before .before .before in
+    let c6 = c3 .before .before .before in
+    room-then (c3 .put-field .ensures) _ (room-front _ (room-front _ (c6 .pre)))
 
 put-name-requires : tie.Need-put-name-requires
 unfolding line spaced closed
-put-name-requires c κs = room-then (put-then (c .before .before .before .before .before .before .before .put-field .ensures) (c .before .before .before .put-field2 .ensures)) _ (room-front _ (c .before .before .before .before .before .before .before .before .before .before .pre))
+put-name-requires c κs =
+    let c3 = c .before .before .before in
+    let c7 = c3 .before .before .before .before in
+    let c10 = c7 .before .before .before in
+    room-then (put-then (c7 .put-field .ensures) (c3 .put-field2 .ensures)) _ (room-front _ (c10 .pre))
 
 put-field-requires-3 : tie.Need-put-field-requires-3
 unfolding line spaced closed
-put-field-requires-3 c κs = room-then (put-then (put-then (c .before .before .before .before .before .before .before .before .before .before .before .put-field .ensures) (c .before .before .before .before .before .before .before .put-field2 .ensures)) (c .before .before .before .put-name .ensures)) _ (c .before .before .before .before .before .before .before .before .before .before .before .before .before .before .pre)
+put-field-requires-3 c κs =
+    let c3 = c .before .before .before in
+    let c7 = c3 .before .before .before .before in
+    let c11 = c7 .before .before .before .before in
+    let c14 = c11 .before .before .before in
+    room-then (put-then (put-then (c11 .put-field .ensures) (c7 .put-field2 .ensures)) (c3 .put-name .ensures)) _ (c14 .pre)
 
 same-length : tie.Need-same-length
 same-length c = search needs
 
 returns : tie.Need-returns
 unfolding line spaced closed
-returns c = put-then (put-then (put-then (c .before .before .before .before .before .before .before .before .before .before .before .before .before .before .put-field .ensures) (c .before .before .before .before .before .before .before .before .before .before .put-field2 .ensures)) (c .before .before .before .before .before .before .put-name .ensures)) (c .before .before .put-field3 .ensures)
+returns c =
+    let c6 = c .before .before .before .before .before .before in
+    let c10 = c6 .before .before .before .before in
+    let c14 = c10 .before .before .before .before in
+    put-then (put-then (put-then (c14 .put-field .ensures) (c10 .put-field2 .ensures)) (c6 .put-name .ensures)) (c .before .before .put-field3 .ensures)
 
 pub put-line-spec : {M : Type 1} → statement M
 put-line-spec =

@@ -20,7 +20,7 @@ long-requires : tie.Need-long-requires
 long-requires c κs = search needs
 
 returns : tie.Need-returns
-returns c = c .long .ensures ∙ ends-next _ _ _ _ (c .before .before .if1 .taken)
+returns c = c .long .ensures .0 ∙ ends-next _ _ _ _ (c .before .before .if1 .taken)
 
 returns-2 : tie.Need-returns-2
 returns-2 c = ends-last _ _ _ _ (c .if1 .left)

@@ -14,7 +14,9 @@ loop-holds : tie.Need-loop-holds Inv-loop μ-loop
 loop-holds c = list-began _ _ _ _ _ (c .before .before .before .before .pre .3)
 
 put-row-requires : tie.Need-put-row-requires Inv-loop μ-loop
-put-row-requires c κs = (search needs, search needs, search needs, search needs, row-room (c .before .before .loop .inv) (c .before .loop-test .taken) (c .before .before .before .before .before .before .before .pre .3))
+put-row-requires c κs =
+    let c7 = c .before .before .before .before .before .before .before in
+    (search needs, search needs, search needs, search needs, row-room (c .before .before .loop .inv) (c .before .loop-test .taken) (c7 .pre .3))
 
 add-i : tie.Need-add-i Inv-loop μ-loop
 add-i c = search needs
@@ -23,7 +25,10 @@ loop-less : tie.Need-loop-less Inv-loop μ-loop
 loop-less c = search needs
 
 loop-again : tie.Need-loop-again Inv-loop μ-loop
-loop-again c = list-turn (c .before .before .before .before .before .loop .inv) (c .before .before .before .before .loop-test .taken) (c .before .before .put-row .ensures)
+loop-again c =
+    let c4 = c .before .before .before .before in
+    let c5 = c4 .before in
+    list-turn (c5 .loop .inv) (c4 .loop-test .taken) (c .before .before .put-row .ensures)
 
 same-length : tie.Need-same-length Inv-loop μ-loop
 same-length c = c .before .loop .inv .put .same

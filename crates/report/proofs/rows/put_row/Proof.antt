@@ -1,5 +1,5 @@
-use Rattle.report.proofs.Puts.{room-as, put-as}
 use Rattle.report.proofs.Listed.{is-row}
+use Rattle.report.proofs.Puts.{room-as, put-as}
 use borrow.Author.Needs.{needs}
 use Rattle.report.proofs.rows.put_row.Statement.{statement}
 use Rattle.report.proofs.rows.put_row.Tie as tie
@@ -35,13 +35,24 @@ long-requires-2 : tie.Need-long-requires-2
 long-requires-2 c κs = search needs
 
 put-line-requires : tie.Need-put-line-requires
-put-line-requires c κs = room-as (is-row _ _ _ _ _ _ (c .before .before .before .before .before .before .long .ensures) (c .before .before .before .before .before .next-place .ensures) (c .before .before .before .before .difference .ensures) (c .long2 .ensures)) (c .before .before .before .before .before .before .before .before .before .before .before .before .pre .4)
+put-line-requires c κs =
+    let c4 = c .before .before .before .before in
+    let c5 = c4 .before in
+    let c6 = c5 .before in
+    let c12 = c6 .before .before .before .before .before .before in
+    room-as (is-row _ _ _ _ _ _ (c6 .long .ensures .0) (c5 .next-place .ensures) (c4 .difference .ensures) (c .long2 .ensures .0)) (c12 .pre .4)
 
 same-length : tie.Need-same-length
 same-length c = search needs
 
 returns : tie.Need-returns
-returns c = put-as (is-row _ _ _ _ _ _ (c .before .before .before .before .before .before .before .before .before .long .ensures) (c .before .before .before .before .before .before .before .before .next-place .ensures) (c .before .before .before .before .before .before .before .difference .ensures) (c .before .before .before .long2 .ensures)) (c .before .before .put-line .ensures)
+returns c =
+    let c3 = c .before .before .before in
+    let c7 = c3 .before .before .before .before in
+    let c8 = c7 .before in
+    let c9 = c8 .before in
+    put-as (is-row _ _ _ _ _ _ (c9 .long .ensures .0) (c8 .next-place .ensures) (c7 .difference .ensures) (c3 .long2 .ensures .0))
+    (c .before .before .put-line .ensures)
 
 pub put-row-spec : {M : Type 1} → statement M
 put-row-spec =

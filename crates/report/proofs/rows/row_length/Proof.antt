@@ -9,7 +9,16 @@ slice-aggregate-put-row : tie.Need-slice-aggregate-put-row
 slice-aggregate-put-row c = search needs
 
 put-row-requires : tie.Need-put-row-requires
-put-row-requires c κs = let a = c .before .before .before .before .args in (search needs, search needs, search needs, search needs, record { fits = omega (arith, row-short (now (a .start)) (now (a .part)) (now (a .owner)) (a .n) (a .end) (a .i)) })
+put-row-requires c κs =
+    let c4 = c .before .before .before .before in
+    let a = c4 .args in (
+      search needs,
+      search needs,
+      search needs,
+      search needs,
+      record
+          { fits = omega (arith, row-short (now (a .start)) (now (a .part)) (now (a .owner)) (a .n) (a .end) (a .i)) },
+    )
 
 returns : tie.Need-returns
 returns c = search needs

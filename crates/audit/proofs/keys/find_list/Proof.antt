@@ -1,0 +1,111 @@
+use native.Mathlib.Omega.{arith}
+use mathlib.Core.Path.{sym, _∙_}
+use denote.Ref.{now}
+use Rattle.keylist.proofs.Records.{list-lies}
+use Rattle.audit.proofs.Listings.{Sought, sought, no-row}
+use Rattle.audit.proofs.Turns.{no-keys, keys-nowhere, keys-bad, keys-held}
+use borrow.Author.Needs.{needs}
+use Rattle.audit.proofs.keys.find_list.Statement.{statement}
+use Rattle.audit.proofs.keys.find_list.Tie as tie
+
+row : (c : tie.After-known-told) →
+    let c7 = c .before .before .before .before .before .before .before in
+    Sought (now (c7 .args .start)) (c7 .args .head .seekkeys) (c .before .row .given .0 .0)
+row c = sought _ _ _ (c .before .before .before .before .before .before .before .pre) (c .before .before .before .find-row .ensures)
+    (c .before .row .given .1)
+
+cast-if1 : tie.Need-cast-if1
+cast-if1 c = search needs
+
+cast-if1-2 : tie.Need-cast-if1-2
+cast-if1-2 c = search needs
+
+add-if1 : tie.Need-add-if1
+add-if1 c = search needs
+
+returns : tie.Need-returns
+returns c = no-keys _ _ _ _ (omega arith)
+
+cast-find-row : tie.Need-cast-find-row
+cast-find-row c = search needs
+
+find-row-requires : tie.Need-find-row-requires
+find-row-requires c κs = search needs
+
+enum-known-row : tie.Need-enum-known-row
+enum-known-row c = search needs
+
+enum-told : tie.Need-enum-told
+enum-told c = search needs
+
+cast-t19 : tie.Need-cast-t19
+cast-t19 c = search needs
+
+returns-2 : tie.Need-returns-2
+returns-2 c =
+    let c3 = c .before .before .before in
+    let c6 = c3 .before .before .before in
+    keys-nowhere _ _ _ _ (c3 .if1 .left) (no-row _ _ (c6 .pre) (c .before .before .find-row .ensures) (c .enum-told .given .1))
+
+long-requires : tie.Need-long-requires
+long-requires c κs = search needs
+
+cast-read-list : tie.Need-cast-read-list
+cast-read-list c = search needs
+
+read-list-requires : tie.Need-read-list-requires
+read-list-requires c κs = search needs
+
+enum-known-from : tie.Need-enum-known-from
+enum-known-from c = search needs
+
+enum-told-2 : tie.Need-enum-told-2
+enum-told-2 c = search needs
+
+cast-t21 : tie.Need-cast-t21
+cast-t21 c = search needs
+
+returns-3 : tie.Need-returns-3
+returns-3 c =
+    let c3 = c .before .before .before in
+    let c4 = c3 .before in
+    let c8 = c4 .before .before .before .before in
+    keys-bad _ _ _ _ (c8 .if1 .left) (row c4) (c3 .long .ensures .0) (sym (c .enum-told2 .given .1) ∙ c .before .before .read-list .ensures .is)
+
+add-next : tie.Need-add-next
+add-next c =
+    let c3 = c .before .before .before in
+    let c12 = c3 .before .before .before .before .before .before .before .before .before in
+    omega (arith, list-lies _ _ _ _ (sym (c .before .from .given .1) ∙ c3 .read-list .ensures .is), c12)
+
+returns-4 : tie.Need-returns-4
+returns-4 c =
+    let c3 = c .before .before .before in
+    let c4 = c3 .before in
+    let c5 = c4 .before in
+    let c9 = c5 .before .before .before .before in
+    keys-held _ _ _ _ (c9 .if1 .left) (row c5) (c4 .long .ensures .0) (sym (c .before .from .given .1) ∙ c3 .read-list .ensures .is)
+
+pub find-list-spec : {M : Type 1} → statement M
+find-list-spec =
+    tie.close
+    (tie.spec
+    cast-if1
+    cast-if1-2
+    add-if1
+    returns
+    cast-find-row
+    find-row-requires
+    enum-known-row
+    enum-told
+    cast-t19
+    returns-2
+    long-requires
+    cast-read-list
+    read-list-requires
+    enum-known-from
+    enum-told-2
+    cast-t21
+    returns-3
+    add-next
+    returns-4)

@@ -1,0 +1,3 @@
+pub mod Frees
+pub mod Gaps
+pub mod Searches
