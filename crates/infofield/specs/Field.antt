@@ -60,7 +60,7 @@ versioned w (opened.Wrong c p) f = w c p
 unfoldable pub endedAt : ℕ → ℕ → Step
 endedAt p e = pick (eqb p e) (Next p) (Wrong 21 p)
 
--- "a string with its length byte is one field"; "a length byte 255 .. is 21"
+-- "a string with its length byte is one field"; one that is not read whole is 21
 abbrev pub placed : Found → ℕ → Step
 placed (Held t) p = Next (t .next)
 placed Cut p = Wrong 21 p
