@@ -1,18 +1,17 @@
 // The C interface: thin functions over the proved crates, with the same promises. A slice is passed as a
 // pointer and a length. The number is returned; place and count are written in every case.
 ghost use mathlib.Core.Path.{_≡_};
-ghost use Rattle.wire.specs.Lent.{before, after};
-ghost use Rattle.wire.specs.Date.{packAnswer, unpacked};
 ghost use lib.ListN.{length};
+ghost use Rattle.wire.specs.Lent.{before, after};
+ghost use Rattle.date.specs.Date.{Packs};
+ghost use Rattle.key.specs.Writer.{Writes};
 ghost use Rattle.streamer.specs.Info.{infoAnswer, infoTable};
-ghost use Rattle.key.specs.Piece.{pieceAt, pieceAnswer};
-ghost use Rattle.key.specs.Writer.{writeAnswer, writeBuffer};
 ghost use Rattle.audit.specs.Tables.{Audits};
-ghost use Rattle.capi.specs.Told.{Told, answer, dateList, pieceList, recordList, dateOf, fieldsOf, storedCycle};
+ghost use Rattle.capi.specs.Told.{told, dateOf, Unpacked, fieldsOf, storedCycle, recordList, Shows};
+use date::Date;
+use key::header::Fields;
 use key::header::Key;
 use key::piece::Piece;
-use key::writer::Fields;
-use wire::date::Date;
 use wire::number::Bits;
 
 // Packs a date: 0 and the packed value as count, or 18.
@@ -27,10 +26,9 @@ pub extern "C" fn rootmap_pack_date(
     place: &mut u64,
     count: &mut u64,
 ) -> u64
-    ensures { λ r. ⌜ Told (packAnswer (dateOf year month day hour minute second))
-        r (now (place .exit)) (now (count .exit)) ⌝ }
+    ensures { λ r. ⌜ Packs (dateOf year month day hour minute second) (told r place count) ⌝ }
 {
-    let a = wire::date::pack_date(Date {
+    let a = date::pack_date(Date {
         year,
         month,
         day,
@@ -46,9 +44,9 @@ pub extern "C" fn rootmap_pack_date(
 // Unpacks any 32 bits: year, month, day, hour, minute, second.
 #[no_mangle]
 pub extern "C" fn rootmap_unpack_date(packed: u32, fields: &mut [u32; 6])
-    ensures { λ _. ⌜ now (fields .exit) ≡ dateList (unpacked packed) ⌝ }
+    ensures { λ _. ⌜ Unpacked packed (now (fields .exit)) ⌝ }
 {
-    let d = wire::date::unpack_date(packed);
+    let d = date::unpack_date(packed);
     *fields = [d.year, d.month, d.day, d.hour, d.minute, d.second];
 }
 
@@ -98,8 +96,7 @@ pub extern "C" fn rootmap_read_piece(
     place: &mut u64,
     count: &mut u64,
 ) -> u64
-    ensures { λ r. ⌜ Told (pieceAnswer (now (file .entry)) at) r (now (place .exit)) (now (count .exit))
-        × (now (fields .exit) ≡ pieceList (pieceAt (now (file .entry)) at)) ⌝ }
+    ensures { λ r. ⌜ Shows (before file) at (now (fields .exit)) (told r place count) ⌝ }
 {
     match key::piece::read_piece(file, at as usize) {
         Piece::Record(k) => {
@@ -140,13 +137,8 @@ pub extern "C" fn rootmap_write_key(
     place: &mut u64,
     count: &mut u64,
 ) -> u64
-    ensures { λ r. ⌜ Told
-        (writeAnswer (fieldsOf nbytes version objlen datime cycle «seek_key» «seek_pdir») (now («class_name» .entry))
-        (now (name .entry)) (now (title .entry)) (now (buf .entry)))
-        r (now (place .exit)) (now (count .exit))
-        × (now (buf .exit)
-        ≡ writeBuffer (fieldsOf nbytes version objlen datime cycle «seek_key» «seek_pdir») (now («class_name» .entry))
-        (now (name .entry)) (now (title .entry)) (now (buf .entry))) ⌝ }
+    ensures { λ r. ⌜ Writes (fieldsOf nbytes version objlen datime cycle «seek_key» «seek_pdir»)
+        (before «class_name») (before name) (before title) (before buf) (after buf) (told r place count) ⌝ }
 {
     let f = Fields {
         nbytes,
@@ -157,7 +149,7 @@ pub extern "C" fn rootmap_write_key(
         seekkey: seek_key,
         seekpdir: seek_pdir,
     };
-    let w = key::writer::write_key(f, class_name, name, title, buf);
+    let w = writer::write_key(f, class_name, name, title, buf);
     *place = w.place;
     *count = w.count;
     w.number
@@ -172,8 +164,7 @@ pub extern "C" fn rootmap_info(
     place: &mut u64,
     count: &mut u64,
 ) -> u64
-    ensures { λ r. ⌜ Told (infoAnswer (before file) at (length (before table)))
-        r (now (place .exit)) (now (count .exit))
+    ensures { λ r. ⌜ (told r place count ≡ infoAnswer (before file) at (length (before table)))
         × (after table ≡ infoTable (before file) at (length (before table))) ⌝ }
 {
     let i = streamer::read_info(file, at as usize, table);
@@ -192,7 +183,7 @@ pub extern "C" fn rootmap_audit(
     place: &mut u64,
     count: &mut u64,
 ) -> u64
-    ensures { λ r. ⌜ Audits file start part owner (answer r (now (place .exit)) (now (count .exit))) ⌝ }
+    ensures { λ r. ⌜ Audits file start part owner (told r place count) ⌝ }
 {
     let v = audit::audit(file, start, part, owner);
     *place = v.place;

@@ -4,11 +4,8 @@ use borrow.Author.Needs.{needs}
 use Rattle.capi.proofs.rootmap_unpack_date.Statement.{statement}
 use Rattle.capi.proofs.rootmap_unpack_date.Tie as tie
 
-unpack-date-requires : tie.Need-unpack-date-requires
-unpack-date-requires c κs = search needs
-
 returns : tie.Need-returns
-returns c = ap dateList (c .before .unpack-date .ensures)
+returns c = let u = c .before .unpack-date .ensures in record { fields-are = ap dateList (u .fields); back = rw (u .fields) at (u .back) }
 
 pub rootmap-unpack-date-spec : {M : Type 1} → statement M
-rootmap-unpack-date-spec = tie.close (tie.spec unpack-date-requires returns)
+rootmap-unpack-date-spec = tie.close (tie.spec (search needs) returns)

@@ -1,7 +1,7 @@
 use mathlib.Core.Path.{_≡_}
 use mir.Val.{toZ, ofZ}
 use mir.Syntax.{w32}
-use Rattle.capi.proofs.Answers.{cycle-bits}
+use Rattle.capi.proofs.Shown.{cycle-bits}
 use borrow.Author.Needs.{needs}
 use Rattle.capi.proofs.stored_cycle.Statement.{statement}
 use Rattle.capi.proofs.stored_cycle.Tie as tie
