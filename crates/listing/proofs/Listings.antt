@@ -1,18 +1,35 @@
 -- What is listed: too long an input, or the audit's report; and how much room it takes.
 use Prim.Native.Nat.{ℕ, _<_, _≤_}
 use mathlib.Core.List.{List}
-use mathlib.Core.Path.{_≡_, sym, ap}
-use borrow.Author.Tests.{le-leb, lt-leb}
-use lib.ListN.{length, replicate, length-replicate}
-use lib.Seq.{length-take-le}
+use mathlib.Core.Bool.{Bool, true, false}
+use mathlib.Core.Path.{_≡_, refl, sym, ap, _∙_}
+use native.Mathlib.Omega.{arith}
+use borrow.Author.Tests.{le-leb, lt-leb, leb-true, leb-false}
+use lib.Dec.{leb}
+use lib.ListN.{length, take, replicate, length-replicate}
+use lib.Seq.{length-take-le, take-all}
 use Rattle.wire.specs.declared.Answer.{Answer}
-use Rattle.wire.proofs.Dates.{same-answer}
+use Rattle.wire.proofs.Answers.{same-answer}
 use Rattle.report.specs.Report.{reportOf, Wrote}
-use Rattle.report.proofs.Reports.{wrote-within}
+use Rattle.report.proofs.Reports.{wrote-within, wrote-all}
 use Rattle.wire.specs.Lent.{Lent, before, after}
 use Rattle.rules.specs.Order.{verdict}
 use Rattle.audit.specs.Tables.{told, Audits}
-use Rattle.listing.specs.Listing.{room, reported, tooLong, listingOf, Lists}
+use Rattle.listing.specs.Listing.{room, reported, tooLong, listingOf, inputRoom, Lists}
+use Rattle.listing.proofs.Rooms.{listing-short}
+use Rattle.listing.proofs.Sizes.{printed-sizes}
+
+-- a text depends on no more of an input than there is room for
+text-whole : (s t : List ℕ) → s ≡ take inputRoom t → listingOf s ≡ listingOf t
+unfolding listingOf
+text-whole s t e = go (leb (length t) 49152) refl
+  where
+    go : (b : Bool) → leb (length t) 49152 ≡ b → listingOf s ≡ listingOf t
+    go true h = let l = leb-true (length t) 49152 h in ap listingOf (e ∙ take-all inputRoom t (omega arith))
+    go false h =
+        let l = leb-false (length t) 49152 h in
+        let m : length s ≡ 49153 = ap length e ∙ length-take-le inputRoom t (omega arith) in
+        rw (lt-leb (length s) 49152 (omega arith), h)
 
 module _ (s out : List ℕ) {out′ : List ℕ} {r : Answer} where
   lists : {text : List ℕ} → listingOf s ≡ text → Wrote text out r out′ → Lists s out out′ r
@@ -21,6 +38,9 @@ module _ (s out : List ℕ) {out′ : List ℕ} {r : Answer} where
         answer = rw e (h .0);
         buffer = rw e (h .1);
         counts = (l, sym (length-take-le (r .count) out′ l));
+        sizes = printed-sizes s;
+        held = λ g. rw e (wrote-all text out h (omega (arith, g, ap length e, listing-short s)));
+        whole = λ t. text-whole s t;
       }
 
   pub is-long : 49152 < length s → Wrote tooLong out r out′ → Lists s out out′ r

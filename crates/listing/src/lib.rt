@@ -1,13 +1,29 @@
 // What the list program does with its input.
+ghost use mathlib.Core.Path.{_≡_};
+ghost use lib.ListN.{replicate};
 ghost use Rattle.wire.specs.Lent.{before, after};
-ghost use Rattle.listing.specs.Listing.{Lists};
+ghost use Rattle.listing.specs.Listing.{inputRoom, textRoom, Lists};
 use audit::audit;
 use report::write_report;
 use report::write_text;
 use wire::Answer;
 
+// A buffer for the input.
+pub fn input_buffer() -> [u8; 49153]
+    ensures { λ r. ⌜ r ≡ replicate inputRoom 0 ⌝ }
+{
+    [0; 49153]
+}
+
+// A buffer for the text.
+pub fn text_buffer() -> [u8; 73800]
+    ensures { λ r. ⌜ r ≡ replicate textRoom 0 ⌝ }
+{
+    [0; 73800]
+}
+
 // Writes the list of a file's pieces at the front of a buffer, and counts its bytes. 17, and nothing is written, where
-// the buffer cannot hold it: 73,800 bytes always do.
+// the buffer cannot hold it.
 pub fn list(file: &[u8], out: &mut [u8]) -> Answer
     ensures { λ r. ⌜ Lists (before file) (before out) (after out) r ⌝ }
 {

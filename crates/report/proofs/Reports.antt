@@ -42,6 +42,11 @@ wrote-within text out {r} {w} h = go (leb (length text) (length out)) refl (h .0
         rw (f, g, length-patch out 0 text (omega arith)) l
     go false e f g = rw f (omega arith)
 
+-- a text that the buffer can hold is written
+pub wrote-all : (text out : List ℕ) {r : Answer} {w : List ℕ} → Wrote text out r w → length text ≤ length out → r ≡ done (length text)
+unfolding putAnswer
+wrote-all text out h l = h .0 ∙ rw (le-leb (length text) (length out) l)
+
 module _ (a : Answer) (start part owner : List ℕ) (end : ℕ) (out : List ℕ) {n h : ℕ} {t : Bool}
     (rows : n ≡ rowsOf a start part owner) (first : h ≡ length (heading a))
     (test : t ≡ leb (h + length (lines start part owner n end n)) (length out)) where

@@ -1,0 +1,98 @@
+-- Document 01, "Examples by hand", those marked *: one table of what the definitions give.
+use Prim.Native.Nat.{ℕ}
+use mathlib.Core.Bool.{false}
+use mathlib.Core.List.{List, [], _∷_, _++_}
+use lib.ListN.{length, set, replicate}
+use Rattle.wire.specs.Check.{Check, eq, yes}
+use Rattle.date.specs.Date.{packAnswer}
+use Rattle.wire.specs.Equal.{eqBytes}
+use Rattle.wire.specs.Number.{numAt}
+use Rattle.wire.specs.declared.Answer.{Answer}
+use Rattle.date.specs.declared.Date.{Date}
+use Rattle.key.specs.Header.{sumOf, headerIn}
+use Rattle.key.specs.Piece.{pieceAt, pieceAnswer}
+use Rattle.key.specs.declared.header.Header.{Header}
+use Rattle.key.specs.declared.header.Header.the-variants.{Good, Bad}
+use Rattle.rules.specs.Free.{isGap}
+use Rattle.rules.specs.Order.{Verdict, verdict, numberOf, placeOf, countOf}
+use Rattle.rules.specs.Turn.{Turn, going, stop, copyTurn}
+use Rattle.streamer.specs.Info.{infoAnswer, infoTable}
+use Rattle.examples.specs.Records.{headKey, objectKey, longName, twoClasses, tenKinds}
+
+-- the date of the first example, with a month
+abbrev pub theDate : ℕ → Date
+theDate m = record {
+  year = 2024;
+  month = m;
+  day = 15;
+  hour = 12;
+  minute = 30;
+  second = 45;
+}
+
+-- number, place and count of an answer, and of a verdict
+abbrev pub answers : Answer → ℕ → ℕ → ℕ → List Check
+answers a n p c = eq (a .number) n ∷ eq (a .place) p ∷ eq (a .count) c ∷ []
+
+abbrev pub says : Verdict → ℕ → ℕ → ℕ → List Check
+says v n p c = eq (numberOf v) n ∷ eq (placeOf v) p ∷ eq (countOf v) c ∷ []
+
+-- a refusal among the directories: its number and place
+abbrev pub stops : Turn → ℕ → ℕ → List Check
+stops (going ps os c) n p = yes false ∷ []
+stops (stop m q) n p = eq m n ∷ eq q p ∷ []
+
+-- the piece at 0 is a gap of n bytes
+abbrev pub isGapOf : List ℕ → ℕ → List Check
+isGapOf s n = yes (isGap (pieceAt s 0)) ∷ answers (pieceAnswer s 0) 0 0 n
+
+-- the sum of the header at 0
+abbrev pub sumIn : Header → ℕ
+sumIn (Good k) = sumOf k
+sumIn Bad = 0
+
+abbrev pub sumAt : List ℕ → ℕ
+sumAt s = sumIn (headerIn s 0 (length s))
+
+-- a copy whose KeyLen, 41, is one above its sum
+abbrev pub longCopy : List ℕ
+longCopy = set objectKey 15 41 ++ 0 ∷ []
+
+abbrev pub examples : List Check
+examples =
+    -- 2024-03-15 12:30:45 packs to 1960757165; month 16 is 18
+    answers (packAnswer (theDate 3)) 0 0 1960757165
+    ++ answers (packAnswer (theDate 16)) 18 0 0
+    -- StreamerInfo's own key has sum 64
+    ++ eq (sumAt (twoClasses 89)) 64
+    -- its first new class tag is at 89, so a reference to it is 0x8000005b: it is taken, and one to 90 is not
+    ∷ eq (numAt 4 (twoClasses 89) 89) 4294967295 ∷ eq (numAt 4 (twoClasses 89) 187) 2147483739
+    ∷ answers (infoAnswer (twoClasses 89) 0 6) 0 0 1
+    ++ yes (eqBytes (infoTable (twoClasses 89) 0 7) (1 ∷ 1 ∷ 307 ∷ 346 ∷ 0 ∷ 0 ∷ 0 ∷ []))
+    ∷ answers (infoAnswer (twoClasses 90) 0 6) 22 187 0
+    ++ answers (infoAnswer (twoClasses 89) 0 5) 24 0 1
+    -- one.root's head key has sum 35; "x" of TObjString 40
+    ++ eq (sumAt headKey) 35 ∷ eq (sumAt objectKey) 40
+    -- name length 254 is taken, 255 is 6
+    ∷ answers (pieceAnswer (longName 254) 0) 0 0 284
+    ++ answers (pieceAnswer (longName 255) 0) 6 0 0
+    -- three bytes left before END is 5; four holding -4 is a gap
+    ++ answers (pieceAnswer (255 ∷ 255 ∷ 255 ∷ []) 0) 5 0 0
+    ++ isGapOf (255 ∷ 255 ∷ 255 ∷ 252 ∷ []) 4
+    -- number 0, or -2147483648 with fewer bytes left, is 5
+    ++ answers (pieceAnswer (0 ∷ 0 ∷ 0 ∷ 0 ∷ []) 0) 5 0 0
+    ++ answers (pieceAnswer (128 ∷ 0 ∷ 0 ∷ 0 ∷ []) 0) 5 0 0
+    -- 99 bytes is 1; zero bytes is 1
+    ++ says (verdict (replicate 99 0) 5) 1 0 0
+    ++ says (verdict [] 5) 1 0 0
+    -- a copy with KeyLen one above its sum is 12 at its list; a plain one is read, and is 13 where no piece starts at its SeekKey
+    ++ stops (copyTurn longCopy [] 100 218 41 [] [] 0) 12 218
+    ++ stops (copyTurn objectKey [] 100 218 40 [] [] 0) 13 0
+    -- not one of the paper's: each of the ten kinds, and its row
+    ++ answers (infoAnswer tenKinds 0 60) 0 0 10
+    ++ yes
+    (eqBytes (infoTable tenKinds 0 60)
+    (0 ∷ 1 ∷ 233 ∷ 272 ∷ 1 ∷ 11 ∷ 0 ∷ 2 ∷ 333 ∷ 372 ∷ 2 ∷ 12 ∷ 0 ∷ 3 ∷ 426 ∷ 465 ∷ 3 ∷ 13 ∷ 0 ∷ 4 ∷ 525 ∷ 564 ∷ 4 ∷ 14
+    ∷ 0 ∷ 5 ∷ 626 ∷ 665 ∷ 5 ∷ 15 ∷ 0 ∷ 6 ∷ 726 ∷ 765 ∷ 6 ∷ 16 ∷ 0 ∷ 7 ∷ 817 ∷ 856 ∷ 7 ∷ 17 ∷ 0 ∷ 8 ∷ 921 ∷ 960 ∷ 8 ∷ 18
+    ∷ 0 ∷ 9 ∷ 1011 ∷ 1050 ∷ 9 ∷ 19 ∷ 0 ∷ 10 ∷ 1115 ∷ 1154 ∷ 10 ∷ 20 ∷ []))
+    ∷ []
