@@ -29,15 +29,6 @@ clear-requires-2 c κs = search needs
 clear-requires-3 : tie.Need-clear-requires-3
 clear-requires-3 c κs = search needs
 
-same-length : tie.Need-same-length
-same-length c = search needs
-
-same-length-2 : tie.Need-same-length-2
-same-length-2 c = search needs
-
-same-length-3 : tie.Need-same-length-3
-same-length-3 c = search needs
-
 returns : tie.Need-returns
 returns c =
     let c6 = c .before .before .before .before .before .before in
@@ -54,11 +45,4 @@ pub audit-spec : {M : Type 1} → statement M
 audit-spec =
     tie.close
     (tie.spec
-    examine-requires
-    clear-requires
-    clear-requires-2
-    clear-requires-3
-    same-length
-    same-length-2
-    same-length-3
-    returns)
+    examine-requires clear-requires clear-requires-2 clear-requires-3 (search needs) (search needs) (search needs) returns)

@@ -32,15 +32,6 @@ room c = entire-fits (whole (c .before .before .before)) _ _ (c .before .least2 
 open-requires : tie.Need-open-requires
 open-requires c κs = search needs
 
-enum-known-h : tie.Need-enum-known-h
-enum-known-h c = search needs
-
-enum-known-c : tie.Need-enum-known-c
-enum-known-c c = search needs
-
-cast-refused : tie.Need-cast-refused
-cast-refused c = search needs
-
 refused-requires : tie.Need-refused-requires
 refused-requires c κs = search needs
 
@@ -50,20 +41,8 @@ returns c = header-refused _ _ _ _ _ (sym (c .before .before .c .given .1) ∙ c
 walk-requires : tie.Need-walk-requires
 walk-requires c κs = opened-long _ (sym (c .before .before .before .before .«open» .ensures .is) ∙ c .before .before .h .given .1)
 
-enum-known-n : tie.Need-enum-known-n
-enum-known-n c = search needs
-
-enum-known-c-2 : tie.Need-enum-known-c-2
-enum-known-c-2 c = search needs
-
-cast-refused-2 : tie.Need-cast-refused-2
-cast-refused-2 c = search needs
-
 refused-requires-2 : tie.Need-refused-requires-2
 refused-requires-2 c κs = search needs
-
-same-length : tie.Need-same-length
-same-length c = search needs
 
 returns-2 : tie.Need-returns-2
 returns-2 c =
@@ -78,9 +57,6 @@ least-requires c κs = search needs
 
 least-requires-2 : tie.Need-least-requires-2
 least-requires-2 c κs = search needs
-
-same-length-2 : tie.Need-same-length-2
-same-length-2 c = search needs
 
 returns-3 : tie.Need-returns-3
 returns-3 c =
@@ -116,23 +92,8 @@ enum-told c = search needs
 finished-requires : tie.Need-finished-requires
 finished-requires c κs = search needs
 
-enum-known-c-3 : tie.Need-enum-known-c-3
-enum-known-c-3 c = search needs
-
-cast-refused-3 : tie.Need-cast-refused-3
-cast-refused-3 c = search needs
-
 refused-requires-3 : tie.Need-refused-requires-3
 refused-requires-3 c κs = search needs
-
-same-length-3 : tie.Need-same-length-3
-same-length-3 c = search needs
-
-same-length-4 : tie.Need-same-length-4
-same-length-4 c = search needs
-
-same-length-5 : tie.Need-same-length-5
-same-length-5 c = search needs
 
 returns-4 : tie.Need-returns-4
 returns-4 c =
@@ -145,15 +106,6 @@ returns-4 c =
     entire-passes (whole c14) (room c11) (s .last .1 .1 .0) (s .last .1 .1 .1 .0) _ _
     (c6 .part .given .0) (c4 .owner .given .0) (c .before .enum-told .given .1) (s .ensures) (c .finished .ensures)
 
-same-length-6 : tie.Need-same-length-6
-same-length-6 c = search needs
-
-same-length-7 : tie.Need-same-length-7
-same-length-7 c = search needs
-
-same-length-8 : tie.Need-same-length-8
-same-length-8 c = search needs
-
 returns-5 : tie.Need-returns-5
 returns-5 c =
     let c8 = c .before .before .before .before .before .before .before .before in
@@ -165,40 +117,9 @@ pub examine-spec : {M : Type 1} → statement M
 examine-spec =
     tie.close
     (tie.spec
-    open-requires
-    enum-known-h
-    enum-known-c
-    cast-refused
-    refused-requires
-    returns
-    walk-requires
-    enum-known-n
-    enum-known-c-2
-    cast-refused-2
-    refused-requires-2
-    same-length
-    returns-2
-    least-requires
-    least-requires-2
-    same-length-2
-    returns-3
-    slice-reshare-prefix-survey
-    slice-aggregate-survey
-    slice-relend-prefix-survey
-    slice-aggregate-survey-2
-    slice-relend-prefix-survey-2
-    slice-aggregate-survey-3
-    survey-requires
-    enum-told
-    finished-requires
-    enum-known-c-3
-    cast-refused-3
-    refused-requires-3
-    same-length-3
-    same-length-4
-    same-length-5
-    returns-4
-    same-length-6
-    same-length-7
-    same-length-8
-    returns-5)
+    open-requires (search needs) (search needs) (search needs) refused-requires returns walk-requires (search needs)
+    (search needs) (search needs) refused-requires-2 (search needs) returns-2 least-requires least-requires-2 (search needs)
+    returns-3 slice-reshare-prefix-survey slice-aggregate-survey slice-relend-prefix-survey slice-aggregate-survey-2
+    slice-relend-prefix-survey-2 slice-aggregate-survey-3 survey-requires enum-told finished-requires (search needs)
+    (search needs) refused-requires-3 (search needs) (search needs) (search needs) returns-4 (search needs) (search needs)
+    (search needs) returns-5)

@@ -6,15 +6,6 @@ use borrow.Author.Needs.{needs}
 use Rattle.capi.proofs.stored_cycle.Statement.{statement}
 use Rattle.capi.proofs.stored_cycle.Tie as tie
 
-bits-of-requires : tie.Need-bits-of-requires
-bits-of-requires c κs = search needs
-
-enum-known-n : tie.Need-enum-known-n
-enum-known-n c = search needs
-
-cast-result : tie.Need-cast-result
-cast-result c = search needs
-
 enum-told : tie.Need-enum-told
 enum-told c = search needs
 
@@ -25,5 +16,4 @@ returns-2 : tie.Need-returns-2
 returns-2 c = let i : toZ w32 (ofZ w32 (c .before .before .before .args .z)) ≡ c .before .before .before .args .z = search needs in cycle-bits (c .enum-told .given .1) (c .before .before .bits-of .ensures) i
 
 pub stored-cycle-spec : {M : Type 1} → statement M
-stored-cycle-spec =
-    tie.close (tie.spec bits-of-requires enum-known-n cast-result enum-told returns returns-2)
+stored-cycle-spec = tie.close (tie.spec (search needs) (search needs) (search needs) enum-told returns returns-2)

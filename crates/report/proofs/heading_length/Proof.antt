@@ -4,14 +4,8 @@ use borrow.Author.Needs.{needs}
 use Rattle.report.proofs.heading_length.Statement.{statement}
 use Rattle.report.proofs.heading_length.Tie as tie
 
-slice-aggregate-put-heading : tie.Need-slice-aggregate-put-heading
-slice-aggregate-put-heading c = search needs
-
 put-heading-requires : tie.Need-put-heading-requires
 put-heading-requires c κs = record { fits = omega (arith, heading-short (c .before .args .a)) }
 
-returns : tie.Need-returns
-returns c = search needs
-
 pub heading-length-spec : {M : Type 1} → statement M
-heading-length-spec = tie.close (tie.spec slice-aggregate-put-heading put-heading-requires returns)
+heading-length-spec = tie.close (tie.spec (search needs) put-heading-requires (search needs))

@@ -41,9 +41,6 @@ put-lines-requires c κs =
 finished-requires : tie.Need-finished-requires
 finished-requires c κs = search needs
 
-same-length : tie.Need-same-length
-same-length c = search needs
-
 returns : tie.Need-returns
 returns c =
     let c3 = c .before .before .before in
@@ -70,13 +67,5 @@ pub write-report-spec : {M : Type 1} → statement M
 write-report-spec =
     tie.close
     (tie.spec
-    count-rows-requires
-    heading-length-requires
-    lines-fit-requires
-    put-heading-requires
-    put-lines-requires
-    finished-requires
-    same-length
-    returns
-    refused-requires
-    returns-2)
+    count-rows-requires heading-length-requires lines-fit-requires put-heading-requires put-lines-requires finished-requires
+    (search needs) returns refused-requires returns-2)

@@ -15,12 +15,8 @@ put-text-requires c κs = search needs
 finished-requires : tie.Need-finished-requires
 finished-requires c κs = search needs
 
-same-length : tie.Need-same-length
-same-length c = search needs
-
 returns-2 : tie.Need-returns-2
 returns-2 c = in-room _ _ (c .before .before .before .put-text .ensures) (c .finished .ensures)
 
 pub write-text-spec : {M : Type 1} → statement M
-write-text-spec =
-    tie.close (tie.spec refused-requires returns put-text-requires finished-requires same-length returns-2)
+write-text-spec = tie.close (tie.spec refused-requires returns put-text-requires finished-requires (search needs) returns-2)

@@ -20,18 +20,6 @@ returns c = clear-none _ _ (c .if1 .taken)
 loop-holds : tie.Need-loop-holds Inv-loop μ-loop
 loop-holds c = clear-began _ _ (omega arith)
 
--- src/lib.rt:23:9
-mul-table : tie.Need-mul-table Inv-loop μ-loop
-mul-table c = search needs
-
--- src/lib.rt:23:9
-slice-write-table : tie.Need-slice-write-table Inv-loop μ-loop
-slice-write-table c = search needs
-
--- src/lib.rt:24:9
-add-i : tie.Need-add-i Inv-loop μ-loop
-add-i c = search needs
-
 -- src/lib.rt:22:5
 loop-less : tie.Need-loop-less Inv-loop μ-loop
 loop-less c = let k = clear-kept (c .before .loop .inv) in omega arith
@@ -52,14 +40,4 @@ pub clear-spec : {M : Type 1} → statement M
 clear-spec =
     tie.close
     (tie.spec
-    Inv-loop
-    μ-loop
-    returns
-    loop-holds
-    mul-table
-    slice-write-table
-    add-i
-    loop-less
-    loop-again
-    same-length
-    returns-2)
+    Inv-loop μ-loop returns loop-holds (search needs) (search needs) (search needs) loop-less loop-again same-length returns-2)

@@ -12,41 +12,8 @@ use borrow.Author.Needs.{needs}
 use Rattle.writer.proofs.put_header.Statement.{statement}
 use Rattle.writer.proofs.put_header.Tie as tie
 
-cast-t10 : tie.Need-cast-t10
-cast-t10 c = search needs
-
-cast-t11 : tie.Need-cast-t11
-cast-t11 c = search needs
-
-cast-t12 : tie.Need-cast-t12
-cast-t12 c = search needs
-
-cast-t13 : tie.Need-cast-t13
-cast-t13 c = search needs
-
-slice-aggregate-put-values : tie.Need-slice-aggregate-put-values
-slice-aggregate-put-values c = search needs
-
-slice-aggregate-put-values-2 : tie.Need-slice-aggregate-put-values-2
-slice-aggregate-put-values-2 c = search needs
-
-put-values-requires : tie.Need-put-values-requires
-put-values-requires c κs = search needs
-
-sub-put-names : tie.Need-sub-put-names
-sub-put-names c = search needs
-
-part-put-names-start : tie.Need-part-put-names-start
-part-put-names-start c = search needs
-
-part-put-names-end : tie.Need-part-put-names-end
-part-put-names-end c = search needs
-
 put-names-requires : tie.Need-put-names-requires
 put-names-requires c κs = search needs
-
-same-length : tie.Need-same-length
-same-length c = search needs
 
 returns : tie.Need-returns
 returns c =
@@ -64,16 +31,5 @@ pub put-header-spec : {M : Type 1} → statement M
 put-header-spec =
     tie.close
     (tie.spec
-    cast-t10
-    cast-t11
-    cast-t12
-    cast-t13
-    slice-aggregate-put-values
-    slice-aggregate-put-values-2
-    put-values-requires
-    sub-put-names
-    part-put-names-start
-    part-put-names-end
-    put-names-requires
-    same-length
-    returns)
+    (search needs) (search needs) (search needs) (search needs) (search needs) (search needs) (search needs) (search needs)
+    (search needs) (search needs) put-names-requires (search needs) returns)

@@ -10,12 +10,6 @@ use borrow.Author.Needs.{needs}
 use Rattle.writer.proofs.put_names.Statement.{statement}
 use Rattle.writer.proofs.put_names.Tie as tie
 
-put-text-requires : tie.Need-put-text-requires
-put-text-requires c κs = search needs
-
-add-second : tie.Need-add-second
-add-second c = search needs
-
 sub-put-text : tie.Need-sub-put-text
 unfolding textSize
 sub-put-text c = omega arith
@@ -24,18 +18,9 @@ part-put-text-start : tie.Need-part-put-text-start
 unfolding textSize
 part-put-text-start c = omega arith
 
-part-put-text-end : tie.Need-part-put-text-end
-part-put-text-end c = search needs
-
 put-text-requires-2 : tie.Need-put-text-requires-2
 unfolding textSize
 put-text-requires-2 c κs = search needs
-
-add-third : tie.Need-add-third
-add-third c = search needs
-
-add-third-2 : tie.Need-add-third-2
-add-third-2 c = search needs
 
 sub-put-text-2 : tie.Need-sub-put-text-2
 unfolding textSize
@@ -45,15 +30,9 @@ part-put-text-start-2 : tie.Need-part-put-text-start-2
 unfolding textSize
 part-put-text-start-2 c = omega arith
 
-part-put-text-end-2 : tie.Need-part-put-text-end-2
-part-put-text-end-2 c = search needs
-
 put-text-requires-3 : tie.Need-put-text-requires-3
 unfolding textSize
 put-text-requires-3 c κs = search needs
-
-same-length : tie.Need-same-length
-same-length c = search needs
 
 returns : tie.Need-returns
 unfolding nameBytes textSize
@@ -73,17 +52,5 @@ pub put-names-spec : {M : Type 1} → statement M
 put-names-spec =
     tie.close
     (tie.spec
-    put-text-requires
-    add-second
-    sub-put-text
-    part-put-text-start
-    part-put-text-end
-    put-text-requires-2
-    add-third
-    add-third-2
-    sub-put-text-2
-    part-put-text-start-2
-    part-put-text-end-2
-    put-text-requires-3
-    same-length
-    returns)
+    (search needs) (search needs) sub-put-text part-put-text-start (search needs) put-text-requires-2 (search needs)
+    (search needs) sub-put-text-2 part-put-text-start-2 (search needs) put-text-requires-3 (search needs) returns)

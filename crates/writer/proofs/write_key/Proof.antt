@@ -48,53 +48,17 @@ accepted : (c : tie.Else7)
     → let a = key-start (c .before) .args in Accepted (a .f) (now (a .class)) (now (a .name)) (now (a .title)) (now (a .buf))
 accepted c = record { short = omega arith; key = key-there (c .before); room = omega arith }
 
-refused-requires : tie.Need-refused-requires
-refused-requires c κs = search needs
-
 returns : tie.Need-returns
 returns c = keeps _ _ _ _ _ (omega arith) (long-name _ _ _ _ _ (λ h. omega (arith, h)) (c .refused .ensures))
-
-refused-requires-2 : tie.Need-refused-requires-2
-refused-requires-2 c κs = search needs
 
 returns-2 : tie.Need-returns-2
 returns-2 c = keeps _ _ _ _ _ (omega arith) (long-name _ _ _ _ _ (λ h. omega (arith, h)) (c .refused2 .ensures))
 
-refused-requires-3 : tie.Need-refused-requires-3
-refused-requires-3 c κs = search needs
-
 returns-3 : tie.Need-returns-3
 returns-3 c = keeps _ _ _ _ _ (omega arith) (long-name _ _ _ _ _ (λ h. omega (arith, h)) (c .refused3 .ensures))
 
-add-sum : tie.Need-add-sum
-add-sum c = search needs
-
-add-sum-2 : tie.Need-add-sum-2
-add-sum-2 c = search needs
-
-add-sum-3 : tie.Need-add-sum-3
-add-sum-3 c = search needs
-
-add-sum-4 : tie.Need-add-sum-4
-add-sum-4 c = search needs
-
-add-sum-5 : tie.Need-add-sum-5
-add-sum-5 c = search needs
-
-add-sum-6 : tie.Need-add-sum-6
-add-sum-6 c = search needs
-
-bits-of-requires : tie.Need-bits-of-requires
-bits-of-requires c κs = search needs
-
-enum-known-cycle : tie.Need-enum-known-cycle
-enum-known-cycle c = search needs
-
 enum-told : tie.Need-enum-told
 enum-told c = search needs
-
-refused-requires-4 : tie.Need-refused-requires-4
-refused-requires-4 c κs = search needs
 
 returns-4 : tie.Need-returns-4
 returns-4 c =
@@ -103,26 +67,11 @@ returns-4 c =
     keeps _ _ _ _ _ (omega arith) (bad-field _ _ _ _ _ (omega arith)
     (λ h. from-wide i (sym (c .before .enum-told .given .1) ∙ c .before .before .before .bits-of .ensures) (h .0)) (c .refused4 .ensures))
 
-refused-requires-5 : tie.Need-refused-requires-5
-refused-requires-5 c κs = search needs
-
 returns-5 : tie.Need-returns-5
 returns-5 c = keeps _ _ _ _ _ (omega arith) (bad-field _ _ _ _ _ (omega arith) (λ h. omega (arith, h .1 .0)) (c .refused5 .ensures))
 
-refused-requires-6 : tie.Need-refused-requires-6
-refused-requires-6 c κs = search needs
-
 returns-6 : tie.Need-returns-6
 returns-6 c = keeps _ _ _ _ _ (omega arith) (bad-field _ _ _ _ _ (omega arith) (λ h. omega (arith, h .1 .1 .0)) (c .refused6 .ensures))
-
-cast-is-formed : tie.Need-cast-is-formed
-cast-is-formed c = search needs
-
-is-formed-requires : tie.Need-is-formed-requires
-is-formed-requires c κs = search needs
-
-refused-requires-7 : tie.Need-refused-requires-7
-refused-requires-7 c κs = search needs
 
 returns-7 : tie.Need-returns-7
 unfolding textSize
@@ -130,38 +79,14 @@ returns-7 c =
     keeps _ _ _ _ _ (omega arith) (bad-field _ _ _ _ _ (omega arith)
     (λ h. from-not-within _ (c .before .before .is-formed .ensures) (c .before .if6 .taken) (key-limits _ _ _ _ h)) (c .refused7 .ensures))
 
-cast-if7 : tie.Need-cast-if7
-cast-if7 c = search needs
-
-add-if7 : tie.Need-add-if7
-add-if7 c = search needs
-
-refused-requires-8 : tie.Need-refused-requires-8
-refused-requires-8 c κs = search needs
-
 returns-8 : tie.Need-returns-8
 returns-8 c = keeps _ _ _ _ _ (omega arith) (no-room _ _ _ _ _ (omega arith) (key-there (c .before .before)) (omega arith) (c .refused8 .ensures))
-
-sub-put-header : tie.Need-sub-put-header
-sub-put-header c = search needs
-
-part-put-header-start : tie.Need-part-put-header-start
-part-put-header-start c = search needs
-
-part-put-header-end : tie.Need-part-put-header-end
-part-put-header-end c = search needs
 
 put-header-requires : tie.Need-put-header-requires
 unfolding textSize
 put-header-requires c κs =
     let h = accepted (c .before) in
     (h .short, cycle-bits (c .before .before .before .before .before .before .before .before) .0, omega (arith, key-limits _ _ _ _ (h .key)))
-
-finished-requires : tie.Need-finished-requires
-finished-requires c κs = search needs
-
-same-length : tie.Need-same-length
-same-length c = search needs
 
 returns-9 : tie.Need-returns-9
 unfolding textSize headerBytes
@@ -174,39 +99,8 @@ pub write-key-spec : {M : Type 1} → statement M
 write-key-spec =
     tie.close
     (tie.spec
-    refused-requires
-    returns
-    refused-requires-2
-    returns-2
-    refused-requires-3
-    returns-3
-    add-sum
-    add-sum-2
-    add-sum-3
-    add-sum-4
-    add-sum-5
-    add-sum-6
-    bits-of-requires
-    enum-known-cycle
-    enum-told
-    refused-requires-4
-    returns-4
-    refused-requires-5
-    returns-5
-    refused-requires-6
-    returns-6
-    cast-is-formed
-    is-formed-requires
-    refused-requires-7
-    returns-7
-    cast-if7
-    add-if7
-    refused-requires-8
-    returns-8
-    sub-put-header
-    part-put-header-start
-    part-put-header-end
-    put-header-requires
-    finished-requires
-    same-length
+    (search needs) returns (search needs) returns-2 (search needs) returns-3 (search needs) (search needs) (search needs)
+    (search needs) (search needs) (search needs) (search needs) (search needs) enum-told (search needs) returns-4 (search needs)
+    returns-5 (search needs) returns-6 (search needs) (search needs) (search needs) returns-7 (search needs) (search needs)
+    (search needs) returns-8 (search needs) (search needs) (search needs) put-header-requires (search needs) (search needs)
     returns-9)

@@ -8,21 +8,6 @@ use Rattle.audit.proofs.chain.size_at.Tie as tie
 read-piece-requires : tie.Need-read-piece-requires
 read-piece-requires c κs = search needs
 
-enum-known-k : tie.Need-enum-known-k
-enum-known-k c = search needs
-
-cast-t9 : tie.Need-cast-t9
-cast-t9 c = search needs
-
-enum-known-n : tie.Need-enum-known-n
-enum-known-n c = search needs
-
-cast-t10 : tie.Need-cast-t10
-cast-t10 c = search needs
-
-enum-known-c : tie.Need-enum-known-c
-enum-known-c c = search needs
-
 returns : tie.Need-returns
 returns c = ap stepOf (sym (c .before .before .k .given .1) ∙ c .before .before .before .before .read-piece .ensures .piece)
 
@@ -36,12 +21,4 @@ pub size-at-spec : {M : Type 1} → statement M
 size-at-spec =
     tie.close
     (tie.spec
-    read-piece-requires
-    enum-known-k
-    cast-t9
-    enum-known-n
-    cast-t10
-    enum-known-c
-    returns
-    returns-2
-    returns-3)
+    read-piece-requires (search needs) (search needs) (search needs) (search needs) (search needs) returns returns-2 returns-3)

@@ -20,9 +20,6 @@ loop-holds c = began _ _ (omega arith)
 size-at-requires : tie.Need-size-at-requires Inv-loop μ-loop
 size-at-requires c κs = search needs
 
-enum-known-step : tie.Need-enum-known-step Inv-loop μ-loop
-enum-known-step c = search needs
-
 enum-told : tie.Need-enum-told Inv-loop μ-loop
 enum-told c = search needs
 
@@ -33,18 +30,6 @@ returns : tie.Need-returns Inv-loop μ-loop
 returns c =
     let c4 = c .before .before .before .before in
     rw (c .enum-told .given .1) (faulted (c4 .loop .inv) (omega arith) (sym (c .enum-told .given .1) ∙ c .before .before .size-at .ensures))
-
-cast-start : tie.Need-cast-start Inv-loop μ-loop
-cast-start c = search needs
-
-mul-start : tie.Need-mul-start Inv-loop μ-loop
-mul-start c = search needs
-
-slice-write-start : tie.Need-slice-write-start Inv-loop μ-loop
-slice-write-start c = search needs
-
-add-n : tie.Need-add-n Inv-loop μ-loop
-add-n c = search needs
 
 add-at : tie.Need-add-at Inv-loop μ-loop
 add-at c = let m = (stepped _ _ (sym (c .before .before .step .given .1) ∙ c .before .before .before .before .size-at .ensures)) in omega arith
@@ -67,20 +52,5 @@ pub walk-spec : {M : Type 1} → statement M
 walk-spec =
     tie.close
     (tie.spec
-    Inv-loop
-    μ-loop
-    loop-holds
-    size-at-requires
-    enum-known-step
-    enum-told
-    same-length
-    returns
-    cast-start
-    mul-start
-    slice-write-start
-    add-n
-    add-at
-    loop-less
-    loop-again
-    same-length-2
-    returns-2)
+    Inv-loop μ-loop loop-holds size-at-requires (search needs) enum-told same-length returns (search needs) (search needs)
+    (search needs) (search needs) add-at loop-less loop-again same-length-2 returns-2)

@@ -14,32 +14,14 @@ row : (c : tie.After-known-told) →
 row c = sought _ _ _ (c .before .before .before .before .before .before .before .pre) (c .before .before .before .find-row .ensures)
     (c .before .row .given .1)
 
-cast-if1 : tie.Need-cast-if1
-cast-if1 c = search needs
-
-cast-if1-2 : tie.Need-cast-if1-2
-cast-if1-2 c = search needs
-
-add-if1 : tie.Need-add-if1
-add-if1 c = search needs
-
 returns : tie.Need-returns
 returns c = no-keys _ _ _ _ (omega arith)
-
-cast-find-row : tie.Need-cast-find-row
-cast-find-row c = search needs
 
 find-row-requires : tie.Need-find-row-requires
 find-row-requires c κs = search needs
 
-enum-known-row : tie.Need-enum-known-row
-enum-known-row c = search needs
-
 enum-told : tie.Need-enum-told
 enum-told c = search needs
-
-cast-t19 : tie.Need-cast-t19
-cast-t19 c = search needs
 
 returns-2 : tie.Need-returns-2
 returns-2 c =
@@ -50,20 +32,8 @@ returns-2 c =
 long-requires : tie.Need-long-requires
 long-requires c κs = search needs
 
-cast-read-list : tie.Need-cast-read-list
-cast-read-list c = search needs
-
 read-list-requires : tie.Need-read-list-requires
 read-list-requires c κs = search needs
-
-enum-known-from : tie.Need-enum-known-from
-enum-known-from c = search needs
-
-enum-told-2 : tie.Need-enum-told-2
-enum-told-2 c = search needs
-
-cast-t21 : tie.Need-cast-t21
-cast-t21 c = search needs
 
 returns-3 : tie.Need-returns-3
 returns-3 c =
@@ -90,22 +60,6 @@ pub find-list-spec : {M : Type 1} → statement M
 find-list-spec =
     tie.close
     (tie.spec
-    cast-if1
-    cast-if1-2
-    add-if1
-    returns
-    cast-find-row
-    find-row-requires
-    enum-known-row
-    enum-told
-    cast-t19
-    returns-2
-    long-requires
-    cast-read-list
-    read-list-requires
-    enum-known-from
-    enum-told-2
-    cast-t21
-    returns-3
-    add-next
+    (search needs) (search needs) (search needs) returns (search needs) find-row-requires (search needs) enum-told (search needs)
+    returns-2 long-requires (search needs) read-list-requires (search needs) (search needs) (search needs) returns-3 add-next
     returns-4)

@@ -22,17 +22,8 @@ one-copy-requires c κs =
     let w = c3 .loop .inv in
     tables-kept (c8 .pre) (w .parts) (w .owners)
 
-enum-known-r : tie.Need-enum-known-r Inv-loop μ-loop
-enum-known-r c = search needs
-
 enum-told : tie.Need-enum-told Inv-loop μ-loop
 enum-told c = search needs
-
-same-length : tie.Need-same-length Inv-loop μ-loop
-same-length c = search needs
-
-same-length-2 : tie.Need-same-length-2 Inv-loop μ-loop
-same-length-2 c = search needs
 
 returns : tie.Need-returns Inv-loop μ-loop
 returns c =
@@ -67,12 +58,6 @@ add-near c =
     let t = told-row _ _ (c4 .r .given .1) (c10 .one-copy .ensures .1) in let k = c10 .one-copy .kept in let w =
     c14 .loop .inv in omega (arith, t .0, w .parts, k .1 .1 .0, c19 .good)
 
-sub-left : tie.Need-sub-left Inv-loop μ-loop
-sub-left c = search needs
-
-loop-less : tie.Need-loop-less Inv-loop μ-loop
-loop-less c = search needs
-
 loop-again : tie.Need-loop-again Inv-loop μ-loop
 loop-again c =
     let c4 = c .before .before .before .before in
@@ -83,12 +68,6 @@ loop-again c =
     (⊎-elim (λ x. omega (arith, x)) (λ x. omega (arith, x)) (c .if1 .came))
     (λ h. found-low _ _ _ _ _ (c .before .found-row .ensures) (⊎-elim (λ x. omega (arith, x)) (λ x. omega (arith, x)) (c .if1 .came)) h)
 
-same-length-3 : tie.Need-same-length-3 Inv-loop μ-loop
-same-length-3 c = search needs
-
-same-length-4 : tie.Need-same-length-4 Inv-loop μ-loop
-same-length-4 c = search needs
-
 returns-2 : tie.Need-returns-2 Inv-loop μ-loop
 returns-2 c = all-copied (c .before .loop .inv) (omega arith)
 
@@ -96,22 +75,6 @@ pub list-copies-spec : {M : Type 1} → statement M
 list-copies-spec =
     tie.close
     (tie.spec
-    Inv-loop
-    μ-loop
-    loop-holds
-    one-copy-requires
-    enum-known-r
-    enum-told
-    same-length
-    same-length-2
-    returns
-    mul-found-row
-    slice-read-found-row
-    found-row-requires
-    add-near
-    sub-left
-    loop-less
-    loop-again
-    same-length-3
-    same-length-4
+    Inv-loop μ-loop loop-holds one-copy-requires (search needs) enum-told (search needs) (search needs) returns mul-found-row
+    slice-read-found-row found-row-requires add-near (search needs) (search needs) loop-again (search needs) (search needs)
     returns-2)

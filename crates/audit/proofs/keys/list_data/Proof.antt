@@ -10,12 +10,6 @@ room : (c : tie.Else1)
     → c .before .before .before .before .before .before .args .from + 4 ≤ c .before .before .before .before .before .before .args .list .end
 room c = omega (arith, c .if1 .left, c .before .before .before .before .before .before .pre)
 
-sub-if1 : tie.Need-sub-if1
-sub-if1 c = search needs
-
-cast-t12 : tie.Need-cast-t12
-cast-t12 c = search needs
-
 returns : tie.Need-returns
 returns c =
     let c7 = c .before .before .before .before .before .before .before in
@@ -24,23 +18,11 @@ returns c =
 be32-requires : tie.Need-be32-requires
 be32-requires c κs = search needs
 
-add-list-copies : tie.Need-add-list-copies
-add-list-copies c = search needs
-
 list-copies-requires : tie.Need-list-copies-requires
 list-copies-requires c κs = search needs
 
-enum-known-r : tie.Need-enum-known-r
-enum-known-r c = search needs
-
 enum-told : tie.Need-enum-told
 enum-told c = search needs
-
-same-length : tie.Need-same-length
-same-length c = search needs
-
-same-length-2 : tie.Need-same-length-2
-same-length-2 c = search needs
 
 returns-2 : tie.Need-returns-2
 returns-2 c =
@@ -48,15 +30,6 @@ returns-2 c =
     let c9 = c6 .before .before .before in
     let c10 = c9 .before in
     data-fault _ _ _ _ _ _ _ _ _ (room c10) (c9 .be32 .ensures) _ _ _ (c6 .list-copies .ensures) (c .enum-told .given .1)
-
-cast-t17 : tie.Need-cast-t17
-cast-t17 c = search needs
-
-same-length-3 : tie.Need-same-length-3
-same-length-3 c = search needs
-
-same-length-4 : tie.Need-same-length-4
-same-length-4 c = search needs
 
 returns-3 : tie.Need-returns-3
 returns-3 c =
@@ -66,12 +39,6 @@ returns-3 c =
     let c14 = c13 .before in
     data-left _ _ _ _ _ _ _ _ _ (room c14) (c13 .be32 .ensures) _ _ _ (c10 .list-copies .ensures)
     (c4 .r .given .1) (c .before .if2 .taken)
-
-same-length-5 : tie.Need-same-length-5
-same-length-5 c = search needs
-
-same-length-6 : tie.Need-same-length-6
-same-length-6 c = search needs
 
 returns-4 : tie.Need-returns-4
 returns-4 c =
@@ -86,21 +53,6 @@ pub list-data-spec : {M : Type 1} → statement M
 list-data-spec =
     tie.close
     (tie.spec
-    sub-if1
-    cast-t12
-    returns
-    be32-requires
-    add-list-copies
-    list-copies-requires
-    enum-known-r
-    enum-told
-    same-length
-    same-length-2
-    returns-2
-    cast-t17
-    same-length-3
-    same-length-4
-    returns-3
-    same-length-5
-    same-length-6
+    (search needs) (search needs) returns be32-requires (search needs) list-copies-requires (search needs) enum-told
+    (search needs) (search needs) returns-2 (search needs) (search needs) (search needs) returns-3 (search needs) (search needs)
     returns-4)

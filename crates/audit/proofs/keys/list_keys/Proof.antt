@@ -22,29 +22,11 @@ find-list-requires c κs = search needs
 enum-told : tie.Need-enum-told
 enum-told c = search needs
 
-enum-known-c : tie.Need-enum-known-c
-enum-known-c c = search needs
-
-enum-known-g : tie.Need-enum-known-g
-enum-known-g c = search needs
-
 give-part-requires : tie.Need-give-part-requires
 give-part-requires c κs =
     let c10 = c .before .before .before .before .before .before .before .before .before .before in
     let t = c10 .pre in
     (omega (arith, heading (c .before .before) .row, t .parts), t .owners ∙ sym (t .parts))
-
-enum-told-2 : tie.Need-enum-told-2
-enum-told-2 c = search needs
-
-enum-told-3 : tie.Need-enum-told-3
-enum-told-3 c = search needs
-
-same-length : tie.Need-same-length
-same-length c = search needs
-
-same-length-2 : tie.Need-same-length-2
-same-length-2 c = search needs
 
 returns : tie.Need-returns
 returns c =
@@ -67,12 +49,6 @@ returns-2 c = keys-none _ _ _ _ _ _ (c .before .before .find-list .ensures) _ (c
 returns-3 : tie.Need-returns-3
 returns-3 c = keys-stops _ _ _ _ _ _ (c .before .before .before .find-list .ensures) _ _ (c .before .c .given .1)
 
-same-length-3 : tie.Need-same-length-3
-same-length-3 c = search needs
-
-same-length-4 : tie.Need-same-length-4
-same-length-4 c = search needs
-
 returns-4 : tie.Need-returns-4
 returns-4 c =
     let c4 = c .before .before .before .before in
@@ -88,19 +64,5 @@ pub list-keys-spec : {M : Type 1} → statement M
 list-keys-spec =
     tie.close
     (tie.spec
-    find-list-requires
-    enum-told
-    enum-known-c
-    enum-known-g
-    give-part-requires
-    enum-told-2
-    enum-told-3
-    same-length
-    same-length-2
-    returns
-    list-data-requires
-    returns-2
-    returns-3
-    same-length-3
-    same-length-4
-    returns-4)
+    find-list-requires enum-told (search needs) (search needs) give-part-requires (search needs) (search needs) (search needs)
+    (search needs) returns list-data-requires returns-2 returns-3 (search needs) (search needs) returns-4)

@@ -10,9 +10,6 @@ use Rattle.audit.proofs.keys.one_copy.Tie as tie
 test-copy-requires : tie.Need-test-copy-requires
 test-copy-requires c κs = search needs
 
-enum-known-g : tie.Need-enum-known-g
-enum-known-g c = search needs
-
 give-part-requires : tie.Need-give-part-requires
 give-part-requires c κs =
     let c3 = c .before .before .before in
@@ -23,15 +20,6 @@ give-part-requires c κs =
     let l = copy-row (now (a .start)) (copyStep (now (a .file)) (now (a .start)) (a .list) (a .at)) (now (a .part)) (now (a .owner)) (now (a .part))
     (now (a .owner)) (c5 .test-copy .ensures) (c3 .g .given .1) in
     (omega (arith, l, t .parts), t .owners ∙ sym (t .parts))
-
-enum-known-c : tie.Need-enum-known-c
-enum-known-c c = search needs
-
-same-length : tie.Need-same-length
-same-length c = search needs
-
-same-length-2 : tie.Need-same-length-2
-same-length-2 c = search needs
 
 returns : tie.Need-returns
 returns c =
@@ -54,11 +42,4 @@ pub one-copy-spec : {M : Type 1} → statement M
 one-copy-spec =
     tie.close
     (tie.spec
-    test-copy-requires
-    enum-known-g
-    give-part-requires
-    enum-known-c
-    same-length
-    same-length-2
-    returns
-    returns-2)
+    test-copy-requires (search needs) give-part-requires (search needs) (search needs) (search needs) returns returns-2)

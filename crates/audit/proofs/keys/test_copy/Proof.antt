@@ -44,14 +44,8 @@ row c =
 read-copy-requires : tie.Need-read-copy-requires
 read-copy-requires c κs = search needs
 
-enum-known-k : tie.Need-enum-known-k
-enum-known-k c = search needs
-
 enum-told : tie.Need-enum-told
 enum-told c = search needs
-
-cast-t11 : tie.Need-cast-t11
-cast-t11 c = search needs
 
 returns : tie.Need-returns
 returns c =
@@ -63,12 +57,6 @@ returns c =
 seek-row-requires : tie.Need-seek-row-requires
 seek-row-requires c κs = search needs
 
-enum-known-row : tie.Need-enum-known-row
-enum-known-row c = search needs
-
-enum-told-2 : tie.Need-enum-told-2
-enum-told-2 c = search needs
-
 returns-2 : tie.Need-returns-2
 returns-2 c =
     let c3 = c .before .before .before in
@@ -78,18 +66,12 @@ returns-2 c =
 read-piece-requires : tie.Need-read-piece-requires
 read-piece-requires c κs = search needs
 
-enum-known-l : tie.Need-enum-known-l
-enum-known-l c = search needs
-
 returns-3 : tie.Need-returns-3
 returns-3 c =
     let c6 = c .before .before .before .before .before .before in
     let c12 = c6 .before .before .before .before .before .before in
     let o = if-other isRecord (now (c12 .args .file)) (key c6 .seekkey) (c .before .read-piece .ensures) false (c .match3 .keys2) (λ n. refl) (λ n p. refl) in
     wrong c6 (λ h. never _ (sym o) (h .1 .0))
-
-cast-same-at : tie.Need-cast-same-at
-cast-same-at c = search needs
 
 same-at-requires : tie.Need-same-at-requires
 same-at-requires c κs = search needs
@@ -99,9 +81,6 @@ returns-4 c =
     let c11 = c .before .before .before .before .before .before .before .before .before .before .before in
     wrong c11 (λ h. failed _ _ (c .before .same-at .ensures) (c .if1 .taken) (h .1 .1 .0))
 
-cast-if2 : tie.Need-cast-if2
-cast-if2 c = search needs
-
 returns-5 : tie.Need-returns-5
 returns-5 c =
     let c14 = c .before .before .before .before .before .before .before .before .before .before .before .before .before .before in
@@ -109,9 +88,6 @@ returns-5 c =
 
 mark-of-requires : tie.Need-mark-of-requires
 mark-of-requires c κs = search needs
-
-cast-t15 : tie.Need-cast-t15
-cast-t15 c = search needs
 
 add-t19 : tie.Need-add-t19
 add-t19 c =
@@ -138,24 +114,6 @@ pub test-copy-spec : {M : Type 1} → statement M
 test-copy-spec =
     tie.close
     (tie.spec
-    read-copy-requires
-    enum-known-k
-    enum-told
-    cast-t11
-    returns
-    seek-row-requires
-    enum-known-row
-    enum-told-2
-    returns-2
-    read-piece-requires
-    enum-known-l
-    returns-3
-    cast-same-at
-    same-at-requires
-    returns-4
-    cast-if2
-    returns-5
-    mark-of-requires
-    cast-t15
-    add-t19
-    returns-6)
+    read-copy-requires (search needs) enum-told (search needs) returns seek-row-requires (search needs) (search needs) returns-2
+    read-piece-requires (search needs) returns-3 (search needs) same-at-requires returns-4 (search needs) returns-5
+    mark-of-requires (search needs) add-t19 returns-6)

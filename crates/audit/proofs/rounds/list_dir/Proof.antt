@@ -8,23 +8,8 @@ use Rattle.audit.proofs.rounds.list_dir.Tie as tie
 use Rattle.audit.proofs.keys.list_keys.Reads as list-keys-reads
 use Rattle.audit.proofs.rounds.read_dir.Reads as read-dir-reads
 
-mul-dir : tie.Need-mul-dir
-mul-dir c = search needs
-
-shared-slice-read-dir : tie.Need-shared-slice-read-dir
-shared-slice-read-dir c = search needs
-
-mul-read-dir : tie.Need-mul-read-dir
-mul-read-dir c = search needs
-
-slice-read-read-dir : tie.Need-slice-read-read-dir
-slice-read-read-dir c = search needs
-
 read-dir-requires : tie.Need-read-dir-requires
 read-dir-requires c κs = search needs
-
-enum-known-d : tie.Need-enum-known-d
-enum-known-d c = search needs
 
 enum-told : tie.Need-enum-told
 enum-told c = search needs
@@ -43,12 +28,6 @@ returns c =
 list-keys-requires : tie.Need-list-keys-requires
 list-keys-requires c κs = search needs
 
-same-length : tie.Need-same-length
-same-length c = search needs
-
-same-length-2 : tie.Need-same-length-2
-same-length-2 c = search needs
-
 returns-2 : tie.Need-returns-2
 returns-2 c =
     let c4 = c .before .before .before .before in
@@ -63,16 +42,5 @@ pub list-dir-spec : {M : Type 1} → statement M
 list-dir-spec =
     tie.close
     (tie.spec
-    mul-dir
-    shared-slice-read-dir
-    mul-read-dir
-    slice-read-read-dir
-    read-dir-requires
-    enum-known-d
-    enum-told
-    long-requires
-    returns
-    list-keys-requires
-    same-length
-    same-length-2
-    returns-2)
+    (search needs) (search needs) (search needs) (search needs) read-dir-requires (search needs) enum-told long-requires returns
+    list-keys-requires (search needs) (search needs) returns-2)

@@ -19,12 +19,6 @@ loop-holds c = rounds-began _ _ _ _ _ _
 next-row-requires : tie.Need-next-row-requires Inv-loop μ-loop
 next-row-requires c κs = c .before .before .loop .inv .done
 
-same-length : tie.Need-same-length Inv-loop μ-loop
-same-length c = search needs
-
-same-length-2 : tie.Need-same-length-2 Inv-loop μ-loop
-same-length-2 c = search needs
-
 returns : tie.Need-returns Inv-loop μ-loop
 returns c = rounds-rest (c .before .before .before .before .loop .inv) (omega (arith, c .before .before .before)) (c .before .next-row .ensures)
     (c .if1 .taken)
@@ -37,17 +31,8 @@ take-dir-requires c κs =
     let c11 = c6 .before .before .before .before .before in
     ready (c6 .loop .inv) (omega (arith, c5)) (c3 .next-row .ensures) (c .before .before .if1 .left) (c11 .pre)
 
-enum-known-r : tie.Need-enum-known-r Inv-loop μ-loop
-enum-known-r c = search needs
-
 enum-told : tie.Need-enum-told Inv-loop μ-loop
 enum-told c = search needs
-
-same-length-3 : tie.Need-same-length-3 Inv-loop μ-loop
-same-length-3 c = search needs
-
-same-length-4 : tie.Need-same-length-4 Inv-loop μ-loop
-same-length-4 c = search needs
 
 returns-2 : tie.Need-returns-2 Inv-loop μ-loop
 returns-2 c =
@@ -57,12 +42,6 @@ returns-2 c =
     let c12 = c10 .before .before in
     let c13 = c12 .before in
     rounds-fault (c13 .loop .inv) (omega (arith, c12)) (c10 .next-row .ensures) (c9 .if1 .left) _ _ _ (c6 .take-dir .ensures) (c .enum-told .given .1)
-
-sub-left : tie.Need-sub-left Inv-loop μ-loop
-sub-left c = search needs
-
-loop-less : tie.Need-loop-less Inv-loop μ-loop
-loop-less c = search needs
 
 loop-again : tie.Need-loop-again Inv-loop μ-loop
 loop-again c =
@@ -75,12 +54,6 @@ loop-again c =
     rounds-again (c14 .loop .inv) (omega (arith, c13)) (c11 .next-row .ensures) (c10 .if1 .left) _ _ _ (c7 .take-dir .ensures)
     (c .before .r .given .1) (k .1 .1 .0) (k .1 .1 .1 .0)
 
-same-length-5 : tie.Need-same-length-5 Inv-loop μ-loop
-same-length-5 c = search needs
-
-same-length-6 : tie.Need-same-length-6 Inv-loop μ-loop
-same-length-6 c = search needs
-
 returns-3 : tie.Need-returns-3 Inv-loop μ-loop
 returns-3 c = rounds-ended (c .before .loop .inv) (omega arith)
 
@@ -88,22 +61,5 @@ pub list-dirs-spec : {M : Type 1} → statement M
 list-dirs-spec =
     tie.close
     (tie.spec
-    Inv-loop
-    μ-loop
-    loop-holds
-    next-row-requires
-    same-length
-    same-length-2
-    returns
-    take-dir-requires
-    enum-known-r
-    enum-told
-    same-length-3
-    same-length-4
-    returns-2
-    sub-left
-    loop-less
-    loop-again
-    same-length-5
-    same-length-6
-    returns-3)
+    Inv-loop μ-loop loop-holds next-row-requires (search needs) (search needs) returns take-dir-requires (search needs) enum-told
+    (search needs) (search needs) returns-2 (search needs) (search needs) loop-again (search needs) (search needs) returns-3)

@@ -15,26 +15,11 @@ abbrev μ-loop : tie.MeasureT-loop
 loop-holds : tie.Need-loop-holds Inv-loop μ-loop
 loop-holds c = parts-began _ _ _ _ (c .before .before .before .pre)
 
-mul-part-at : tie.Need-mul-part-at Inv-loop μ-loop
-mul-part-at c = search needs
-
-shared-slice-read-part-at : tie.Need-shared-slice-read-part-at Inv-loop μ-loop
-shared-slice-read-part-at c = search needs
-
 part-at-requires : tie.Need-part-at-requires Inv-loop μ-loop
 part-at-requires c κs = search needs
 
-mul-part : tie.Need-mul-part Inv-loop μ-loop
-mul-part c = search needs
-
 slice-write-part : tie.Need-slice-write-part Inv-loop μ-loop
 slice-write-part c = let k = parts-kept (c .before .before .before .loop .inv) in omega arith
-
-add-i : tie.Need-add-i Inv-loop μ-loop
-add-i c = search needs
-
-loop-less : tie.Need-loop-less Inv-loop μ-loop
-loop-less c = search needs
 
 loop-again : tie.Need-loop-again Inv-loop μ-loop
 loop-again c = parts-again (c .before .before .before .loop .inv) (c .before .before .loop-test .taken) (c .part-at .ensures)
@@ -49,16 +34,5 @@ pub first-parts-spec : {M : Type 1} → statement M
 first-parts-spec =
     tie.close
     (tie.spec
-    Inv-loop
-    μ-loop
-    loop-holds
-    mul-part-at
-    shared-slice-read-part-at
-    part-at-requires
-    mul-part
-    slice-write-part
-    add-i
-    loop-less
-    loop-again
-    same-length
-    returns)
+    Inv-loop μ-loop loop-holds (search needs) (search needs) part-at-requires (search needs) slice-write-part (search needs)
+    (search needs) loop-again same-length returns)

@@ -37,17 +37,11 @@ read-head-requires c κs = search needs
 enum-told : tie.Need-enum-told
 enum-told c = search needs
 
-enum-told-2 : tie.Need-enum-told-2
-enum-told-2 c = search needs
-
 returns : tie.Need-returns
 returns c = no-head _ _ _ _ _ (sym (c .enum-told2 .given .1) ∙ c .before .before .read-head .ensures .is)
 
 check-free-requires : tie.Need-check-free-requires
 check-free-requires c κs = search needs
-
-cast-t9 : tie.Need-cast-t9
-cast-t9 c = search needs
 
 returns-2 : tie.Need-returns-2
 returns-2 c =
@@ -57,9 +51,6 @@ returns-2 c =
 
 check-info-requires : tie.Need-check-info-requires
 check-info-requires c κs = search needs
-
-cast-t10 : tie.Need-cast-t10
-cast-t10 c = search needs
 
 returns-3 : tie.Need-returns-3
 returns-3 c =
@@ -81,12 +72,6 @@ list-dirs-requires c κs =
     let c21 = c8 .before .before .before .before .before .before .before .before .before .before .before .before .before in
     ready _ _ (c21 .pre) (c8 .first-parts .ensures) (c4 .clear .ensures)
 
-same-length : tie.Need-same-length
-same-length c = search needs
-
-same-length-2 : tie.Need-same-length-2
-same-length-2 c = search needs
-
 returns-4 : tie.Need-returns-4
 returns-4 c =
     let c4 = c .before .before .before .before in
@@ -103,19 +88,5 @@ pub survey-spec : {M : Type 1} → statement M
 survey-spec =
     tie.close
     (tie.spec
-    read-head-requires
-    enum-told
-    enum-told-2
-    returns
-    check-free-requires
-    cast-t9
-    returns-2
-    check-info-requires
-    cast-t10
-    returns-3
-    first-parts-requires
-    clear-requires
-    list-dirs-requires
-    same-length
-    same-length-2
-    returns-4)
+    read-head-requires enum-told (search needs) returns check-free-requires (search needs) returns-2 check-info-requires
+    (search needs) returns-3 first-parts-requires clear-requires list-dirs-requires (search needs) (search needs) returns-4)

@@ -4,12 +4,6 @@ use borrow.Author.Needs.{needs}
 use Rattle.infoelement.proofs.element.counter.Statement.{statement}
 use Rattle.infoelement.proofs.element.counter.Tie as tie
 
-numbers-requires : tie.Need-numbers-requires
-numbers-requires c κs = search needs
-
-enum-known-r : tie.Need-enum-known-r
-enum-known-r c = search needs
-
 enum-told : tie.Need-enum-told
 enum-told c = search needs
 
@@ -17,23 +11,11 @@ returns : tie.Need-returns
 unfolding counterAt
 returns c = halts _ (c .before .before .numbers .ensures) (c .enum-told .given .1)
 
-text-requires : tie.Need-text-requires
-text-requires c κs = search needs
-
-enum-known-r-2 : tie.Need-enum-known-r-2
-enum-known-r-2 c = search needs
-
-enum-told-2 : tie.Need-enum-told-2
-enum-told-2 c = search needs
-
 returns-2 : tie.Need-returns-2
 unfolding counterAt
 returns-2 c =
     go-on _ _ (c .before .before .before .before .before .before .numbers .ensures) (c .before .before .before .before .r .given .1) (halts
     _ (c .before .before .text .ensures) (c .enum-told2 .given .1))
-
-text-requires-2 : tie.Need-text-requires-2
-text-requires-2 c κs = search needs
 
 returns-3 : tie.Need-returns-3
 unfolding counterAt
@@ -46,13 +28,5 @@ pub counter-spec : {M : Type 1} → statement M
 counter-spec =
     tie.close
     (tie.spec
-    numbers-requires
-    enum-known-r
-    enum-told
-    returns
-    text-requires
-    enum-known-r-2
-    enum-told-2
-    returns-2
-    text-requires-2
+    (search needs) (search needs) enum-told returns (search needs) (search needs) (search needs) returns-2 (search needs)
     returns-3)

@@ -4,15 +4,9 @@ use borrow.Author.Needs.{needs}
 use Rattle.infoelement.proofs.element.own.Statement.{statement}
 use Rattle.infoelement.proofs.element.own.Tie as tie
 
-numbers-requires : tie.Need-numbers-requires
-numbers-requires c κs = search needs
-
 returns : tie.Need-returns
 unfolding ownAt
 returns c = rw (eq-eqb (c .before .before .before .args .kind) 1 (c .before .if1 .taken)) (c .numbers .ensures)
-
-counter-requires : tie.Need-counter-requires
-counter-requires c κs = search needs
 
 returns-2 : tie.Need-returns-2
 unfolding ownAt
@@ -22,9 +16,6 @@ returns-2 c =
       eq-eqb (c .before .before .before .before
           .args .kind) 4 (c .before .if2 .taken),
     ) (c .counter .ensures)
-
-counter-requires-2 : tie.Need-counter-requires-2
-counter-requires-2 c κs = search needs
 
 returns-3 : tie.Need-returns-3
 unfolding ownAt
@@ -36,9 +27,6 @@ returns-3 c =
       eq-eqb (c .before .before .before .before .before .args .kind) 7
           (c .before .if3 .taken),
     ) (c .counter2 .ensures)
-
-numbers-requires-2 : tie.Need-numbers-requires-2
-numbers-requires-2 c κs = search needs
 
 returns-4 : tie.Need-returns-4
 unfolding ownAt
@@ -66,15 +54,4 @@ returns-5 c =
     )
 
 pub own-spec : {M : Type 1} → statement M
-own-spec =
-    tie.close
-    (tie.spec
-    numbers-requires
-    returns
-    counter-requires
-    returns-2
-    counter-requires-2
-    returns-3
-    numbers-requires-2
-    returns-4
-    returns-5)
+own-spec = tie.close (tie.spec (search needs) returns (search needs) returns-2 (search needs) returns-3 (search needs) returns-4 returns-5)

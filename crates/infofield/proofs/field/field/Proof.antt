@@ -10,11 +10,8 @@ returns c = field-out _ _ _ (omega arith)
 returns-2 : tie.Need-returns-2
 returns-2 c = field-out _ _ _ (omega arith)
 
-add-t5 : tie.Need-add-t5
-add-t5 c = search needs
-
 returns-3 : tie.Need-returns-3
 returns-3 c = field-in _ _ _ (omega arith)
 
 pub field-spec : {M : Type 1} → statement M
-field-spec = tie.close (tie.spec returns returns-2 add-t5 returns-3)
+field-spec = tie.close (tie.spec returns returns-2 (search needs) returns-3)

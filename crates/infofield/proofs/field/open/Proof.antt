@@ -13,9 +13,6 @@ returns-2 : tie.Need-returns-2
 unfolding endOf
 returns-2 c = no-count _ _ _ (λ h. omega (arith, h))
 
-be32-requires : tie.Need-be32-requires
-be32-requires c κs = search needs
-
 returns-3 : tie.Need-returns-3
 unfolding endOf
 returns-3 c = no-count _ _ _ (λ h. omega (arith, h))
@@ -24,21 +21,9 @@ returns-4 : tie.Need-returns-4
 unfolding endOf
 returns-4 c = no-count _ _ _ (λ h. omega (arith, h))
 
-cast-size : tie.Need-cast-size
-cast-size c = search needs
-
 returns-5 : tie.Need-returns-5
 unfolding endOf
 returns-5 c = no-count _ _ _ (λ h. omega (arith, h))
-
-add-t9 : tie.Need-add-t9
-add-t9 c = search needs
-
-add-t10 : tie.Need-add-t10
-add-t10 c = search needs
-
-add-t11 : tie.Need-add-t11
-add-t11 c = search needs
 
 returns-6 : tie.Need-returns-6
 unfolding endOf
@@ -48,14 +33,5 @@ pub open-spec : {M : Type 1} → statement M
 open-spec =
     tie.close
     (tie.spec
-    returns
-    returns-2
-    be32-requires
-    returns-3
-    returns-4
-    cast-size
-    returns-5
-    add-t9
-    add-t10
-    add-t11
+    returns returns-2 (search needs) returns-3 returns-4 (search needs) returns-5 (search needs) (search needs) (search needs)
     returns-6)

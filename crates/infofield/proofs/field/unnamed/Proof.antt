@@ -4,12 +4,6 @@ use borrow.Author.Needs.{needs}
 use Rattle.infofield.proofs.field.unnamed.Statement.{statement}
 use Rattle.infofield.proofs.field.unnamed.Tie as tie
 
-read-text-requires : tie.Need-read-text-requires
-read-text-requires c κs = search needs
-
-enum-known-t : tie.Need-enum-known-t
-enum-known-t c = search needs
-
 enum-told : tie.Need-enum-told
 enum-told c = search needs
 
@@ -23,5 +17,4 @@ returns-3 : tie.Need-returns-3
 returns-3 c = empty-in _ _ _ (c .before .before .before .before .read-text .ensures) (c .before .before .t .given .1) (omega arith)
 
 pub unnamed-spec : {M : Type 1} → statement M
-unnamed-spec =
-    tie.close (tie.spec read-text-requires enum-known-t enum-told returns returns-2 returns-3)
+unnamed-spec = tie.close (tie.spec (search needs) (search needs) enum-told returns returns-2 returns-3)

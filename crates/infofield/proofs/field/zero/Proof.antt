@@ -8,21 +8,12 @@ use borrow.Author.Needs.{needs}
 use Rattle.infofield.proofs.field.zero.Statement.{statement}
 use Rattle.infofield.proofs.field.zero.Tie as tie
 
-field-requires : tie.Need-field-requires
-field-requires c κs = search needs
-
-enum-known-r : tie.Need-enum-known-r
-enum-known-r c = search needs
-
 enum-told : tie.Need-enum-told
 enum-told c = search needs
 
 returns : tie.Need-returns
 unfolding zeroAt
 returns c = halts _ (c .before .before .field .ensures) (c .enum-told .given .1)
-
-be32-requires : tie.Need-be32-requires
-be32-requires c κs = search needs
 
 returns-2 : tie.Need-returns-2
 unfolding zeroAt
@@ -39,6 +30,4 @@ returns-3 c =
     .before .args .at)) 0 (omega (arith, c .before .be32 .ensures))))
 
 pub zero-spec : {M : Type 1} → statement M
-zero-spec =
-    tie.close
-    (tie.spec field-requires enum-known-r enum-told returns be32-requires returns-2 returns-3)
+zero-spec = tie.close (tie.spec (search needs) (search needs) enum-told returns (search needs) returns-2 returns-3)

@@ -9,63 +9,6 @@ use borrow.Author.Needs.{needs}
 use Rattle.key.proofs.header.read_key.Statement.{statement}
 use Rattle.key.proofs.header.read_key.Tie as tie
 
-be32-requires : tie.Need-be32-requires
-be32-requires c κs = search needs
-
-add-be16 : tie.Need-add-be16
-add-be16 c = search needs
-
-be16-requires : tie.Need-be16-requires
-be16-requires c κs = search needs
-
-add-be32 : tie.Need-add-be32
-add-be32 c = search needs
-
-be32-requires-2 : tie.Need-be32-requires-2
-be32-requires-2 c κs = search needs
-
-add-be32-2 : tie.Need-add-be32-2
-add-be32-2 c = search needs
-
-be32-requires-3 : tie.Need-be32-requires-3
-be32-requires-3 c κs = search needs
-
-add-be16-2 : tie.Need-add-be16-2
-add-be16-2 c = search needs
-
-be16-requires-2 : tie.Need-be16-requires-2
-be16-requires-2 c κs = search needs
-
-add-be16-3 : tie.Need-add-be16-3
-add-be16-3 c = search needs
-
-be16-requires-3 : tie.Need-be16-requires-3
-be16-requires-3 c κs = search needs
-
-cast-signed16 : tie.Need-cast-signed16
-cast-signed16 c = search needs
-
-signed16-requires : tie.Need-signed16-requires
-signed16-requires c κs = search needs
-
-add-be32-3 : tie.Need-add-be32-3
-add-be32-3 c = search needs
-
-be32-requires-4 : tie.Need-be32-requires-4
-be32-requires-4 c κs = search needs
-
-cast-t22 : tie.Need-cast-t22
-cast-t22 c = search needs
-
-add-be32-4 : tie.Need-add-be32-4
-add-be32-4 c = search needs
-
-be32-requires-5 : tie.Need-be32-requires-5
-be32-requires-5 c κs = search needs
-
-cast-t25 : tie.Need-cast-t25
-cast-t25 c = search needs
-
 returns : tie.Need-returns
 unfolding keyAt
 returns c =
@@ -92,23 +35,6 @@ pub read-key-spec : {M : Type 1} → statement M
 read-key-spec =
     tie.close
     (tie.spec
-    be32-requires
-    add-be16
-    be16-requires
-    add-be32
-    be32-requires-2
-    add-be32-2
-    be32-requires-3
-    add-be16-2
-    be16-requires-2
-    add-be16-3
-    be16-requires-3
-    cast-signed16
-    signed16-requires
-    add-be32-3
-    be32-requires-4
-    cast-t22
-    add-be32-4
-    be32-requires-5
-    cast-t25
-    returns)
+    (search needs) (search needs) (search needs) (search needs) (search needs) (search needs) (search needs) (search needs)
+    (search needs) (search needs) (search needs) (search needs) (search needs) (search needs) (search needs) (search needs)
+    (search needs) (search needs) (search needs) returns)

@@ -7,12 +7,6 @@ use borrow.Author.Needs.{needs}
 use Rattle.key.proofs.header.read_names.Statement.{statement}
 use Rattle.key.proofs.header.read_names.Tie as tie
 
-read-text-requires : tie.Need-read-text-requires
-read-text-requires c κs = search needs
-
-enum-known-class : tie.Need-enum-known-class
-enum-known-class c = search needs
-
 enum-told : tie.Need-enum-told
 enum-told c = search needs
 
@@ -30,27 +24,9 @@ name-read c = sym (c .name .given .1) ∙ c .before .before .read-text2 .ensures
 returns : tie.Need-returns
 returns c = no-class _ _ _ (sym (c .enum-told .given .1) ∙ c .before .before .read-text .ensures)
 
-read-text-requires-2 : tie.Need-read-text-requires-2
-read-text-requires-2 c κs = search needs
-
-enum-known-name : tie.Need-enum-known-name
-enum-known-name c = search needs
-
-enum-told-2 : tie.Need-enum-told-2
-enum-told-2 c = search needs
-
 returns-2 : tie.Need-returns-2
 returns-2 c =
     no-name _ _ _ (class-read (c .before .before .before .before)) (sym (c .enum-told2 .given .1) ∙ c .before .before .read-text2 .ensures)
-
-read-text-requires-3 : tie.Need-read-text-requires-3
-read-text-requires-3 c κs = search needs
-
-enum-known-title : tie.Need-enum-known-title
-enum-known-title c = search needs
-
-enum-told-3 : tie.Need-enum-told-3
-enum-told-3 c = search needs
 
 returns-3 : tie.Need-returns-3
 returns-3 c =
@@ -68,16 +44,5 @@ pub read-names-spec : {M : Type 1} → statement M
 read-names-spec =
     tie.close
     (tie.spec
-    read-text-requires
-    enum-known-class
-    enum-told
-    returns
-    read-text-requires-2
-    enum-known-name
-    enum-told-2
-    returns-2
-    read-text-requires-3
-    enum-known-title
-    enum-told-3
-    returns-3
-    returns-4)
+    (search needs) (search needs) enum-told returns (search needs) (search needs) (search needs) returns-2 (search needs)
+    (search needs) (search needs) returns-3 returns-4)

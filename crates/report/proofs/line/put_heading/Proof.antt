@@ -5,9 +5,6 @@ use borrow.Author.Needs.{needs}
 use Rattle.report.proofs.line.put_heading.Statement.{statement}
 use Rattle.report.proofs.line.put_heading.Tie as tie
 
-slice-aggregate-put-text : tie.Need-slice-aggregate-put-text
-slice-aggregate-put-text c = search needs
-
 put-text-requires : tie.Need-put-text-requires
 unfolding spaced closed
 put-text-requires c κs =
@@ -22,9 +19,6 @@ put-field-requires c κs =
     let c8 = c6 .before .before in
     room-then (c3 .put-text .ensures) _ (room-as (is-passed (c8 .args .a) (c6 .if1 .taken)) (c8 .pre))
 
-same-length : tie.Need-same-length
-same-length c = search needs
-
 returns : tie.Need-returns
 unfolding spaced closed
 returns c =
@@ -32,9 +26,6 @@ returns c =
     let c9 = c6 .before .before .before in
     let c11 = c9 .before .before in
     put-as (is-passed (c11 .args .a) (c9 .if1 .taken)) (put-then (c6 .put-text .ensures) (c .before .before .put-field .ensures))
-
-slice-aggregate-put-text-2 : tie.Need-slice-aggregate-put-text-2
-slice-aggregate-put-text-2 c = search needs
 
 put-text-requires-2 : tie.Need-put-text-requires-2
 unfolding spaced closed
@@ -50,9 +41,6 @@ put-field-requires-2 c κs =
     let c9 = c6 .before .before .before in
     room-then (c3 .put-text2 .ensures) _ (room-as (is-unfinished (c9 .args .a) (c6 .if2 .taken)) (c9 .pre))
 
-same-length-2 : tie.Need-same-length-2
-same-length-2 c = search needs
-
 returns-2 : tie.Need-returns-2
 unfolding spaced closed
 returns-2 c =
@@ -60,9 +48,6 @@ returns-2 c =
     let c9 = c6 .before .before .before in
     let c12 = c9 .before .before .before in
     put-as (is-unfinished (c12 .args .a) (c9 .if2 .taken)) (put-then (c6 .put-text2 .ensures) (c .before .before .put-field2 .ensures))
-
-slice-aggregate-put-text-3 : tie.Need-slice-aggregate-put-text-3
-slice-aggregate-put-text-3 c = search needs
 
 put-text-requires-3 : tie.Need-put-text-requires-3
 unfolding spaced closed
@@ -93,9 +78,6 @@ put-field-requires-4 c κs =
     room-then (put-then (c7 .put-text3 .ensures) (c3 .put-field3 .ensures)) _
     (room-as (is-refused (c13 .args .a) (c11 .if1 .left) (c10 .if2 .left)) (c13 .pre))
 
-same-length-3 : tie.Need-same-length-3
-same-length-3 c = search needs
-
 returns-3 : tie.Need-returns-3
 unfolding spaced closed
 returns-3 c =
@@ -111,19 +93,6 @@ pub put-heading-spec : {M : Type 1} → statement M
 put-heading-spec =
     tie.close
     (tie.spec
-    slice-aggregate-put-text
-    put-text-requires
-    put-field-requires
-    same-length
-    returns
-    slice-aggregate-put-text-2
-    put-text-requires-2
-    put-field-requires-2
-    same-length-2
-    returns-2
-    slice-aggregate-put-text-3
-    put-text-requires-3
-    put-field-requires-3
-    put-field-requires-4
-    same-length-3
-    returns-3)
+    (search needs) put-text-requires put-field-requires (search needs) returns (search needs) put-text-requires-2
+    put-field-requires-2 (search needs) returns-2 (search needs) put-text-requires-3 put-field-requires-3 put-field-requires-4
+    (search needs) returns-3)

@@ -32,9 +32,6 @@ put-field-requires-3 c κs =
     let c14 = c11 .before .before .before in
     room-then (put-then (put-then (c11 .put-field .ensures) (c7 .put-field2 .ensures)) (c3 .put-name .ensures)) _ (c14 .pre)
 
-same-length : tie.Need-same-length
-same-length c = search needs
-
 returns : tie.Need-returns
 unfolding line spaced closed
 returns c =
@@ -44,12 +41,4 @@ returns c =
     put-then (put-then (put-then (c14 .put-field .ensures) (c10 .put-field2 .ensures)) (c6 .put-name .ensures)) (c .before .before .put-field3 .ensures)
 
 pub put-line-spec : {M : Type 1} → statement M
-put-line-spec =
-    tie.close
-    (tie.spec
-    put-field-requires
-    put-field-requires-2
-    put-name-requires
-    put-field-requires-3
-    same-length
-    returns)
+put-line-spec = tie.close (tie.spec put-field-requires put-field-requires-2 put-name-requires put-field-requires-3 (search needs) returns)

@@ -6,22 +6,13 @@ use borrow.Author.Needs.{needs}
 use Rattle.report.proofs.line.put_name.Statement.{statement}
 use Rattle.report.proofs.line.put_name.Tie as tie
 
-slice-aggregate-put-text : tie.Need-slice-aggregate-put-text
-slice-aggregate-put-text c = search needs
-
 put-text-requires : tie.Need-put-text-requires
 unfolding spaced partName
 put-text-requires c κs = room-as (is-part 0 (c .before .before .before .before .args .part) (omega arith)) (c .before .before .before .before .pre)
 
-same-length : tie.Need-same-length
-same-length c = search needs
-
 returns : tie.Need-returns
 unfolding spaced partName
 returns c = put-as (is-part 0 (c .before .before .before .before .before .before .before .args .part) (omega arith)) (c .before .before .put-text .ensures)
-
-slice-aggregate-put-text-2 : tie.Need-slice-aggregate-put-text-2
-slice-aggregate-put-text-2 c = search needs
 
 put-text-requires-2 : tie.Need-put-text-requires-2
 unfolding spaced partName
@@ -29,17 +20,11 @@ put-text-requires-2 c κs =
     let c5 = c .before .before .before .before .before in
     room-as (is-part 1 (c5 .args .part) (omega arith)) (c5 .pre)
 
-same-length-2 : tie.Need-same-length-2
-same-length-2 c = search needs
-
 returns-2 : tie.Need-returns-2
 unfolding spaced partName
 returns-2 c =
     let c8 = c .before .before .before .before .before .before .before .before in
     put-as (is-part 1 (c8 .args .part) (omega arith)) (c .before .before .put-text2 .ensures)
-
-slice-aggregate-put-text-3 : tie.Need-slice-aggregate-put-text-3
-slice-aggregate-put-text-3 c = search needs
 
 put-text-requires-3 : tie.Need-put-text-requires-3
 unfolding spaced partName
@@ -47,17 +32,11 @@ put-text-requires-3 c κs =
     let c6 = c .before .before .before .before .before .before in
     room-as (is-part 2 (c6 .args .part) (omega arith)) (c6 .pre)
 
-same-length-3 : tie.Need-same-length-3
-same-length-3 c = search needs
-
 returns-3 : tie.Need-returns-3
 unfolding spaced partName
 returns-3 c =
     let c9 = c .before .before .before .before .before .before .before .before .before in
     put-as (is-part 2 (c9 .args .part) (omega arith)) (c .before .before .put-text3 .ensures)
-
-slice-aggregate-put-text-4 : tie.Need-slice-aggregate-put-text-4
-slice-aggregate-put-text-4 c = search needs
 
 put-text-requires-4 : tie.Need-put-text-requires-4
 unfolding spaced partName
@@ -65,17 +44,11 @@ put-text-requires-4 c κs =
     let c7 = c .before .before .before .before .before .before .before in
     room-as (is-part 3 (c7 .args .part) (omega arith)) (c7 .pre)
 
-same-length-4 : tie.Need-same-length-4
-same-length-4 c = search needs
-
 returns-4 : tie.Need-returns-4
 unfolding spaced partName
 returns-4 c =
     let c10 = c .before .before .before .before .before .before .before .before .before .before in
     put-as (is-part 3 (c10 .args .part) (omega arith)) (c .before .before .put-text4 .ensures)
-
-slice-aggregate-put-text-5 : tie.Need-slice-aggregate-put-text-5
-slice-aggregate-put-text-5 c = search needs
 
 put-text-requires-5 : tie.Need-put-text-requires-5
 unfolding spaced partName
@@ -83,17 +56,11 @@ put-text-requires-5 c κs =
     let c8 = c .before .before .before .before .before .before .before .before in
     room-as (is-part 4 (c8 .args .part) (omega arith)) (c8 .pre)
 
-same-length-5 : tie.Need-same-length-5
-same-length-5 c = search needs
-
 returns-5 : tie.Need-returns-5
 unfolding spaced partName
 returns-5 c =
     let c11 = c .before .before .before .before .before .before .before .before .before .before .before in
     put-as (is-part 4 (c11 .args .part) (omega arith)) (c .before .before .put-text5 .ensures)
-
-slice-aggregate-put-text-6 : tie.Need-slice-aggregate-put-text-6
-slice-aggregate-put-text-6 c = search needs
 
 put-text-requires-6 : tie.Need-put-text-requires-6
 unfolding spaced partName
@@ -101,17 +68,11 @@ put-text-requires-6 c κs =
     let c9 = c .before .before .before .before .before .before .before .before .before in
     room-as (is-part 5 (c9 .args .part) (omega arith)) (c9 .pre)
 
-same-length-6 : tie.Need-same-length-6
-same-length-6 c = search needs
-
 returns-6 : tie.Need-returns-6
 unfolding spaced partName
 returns-6 c =
     let c12 = c .before .before .before .before .before .before .before .before .before .before .before .before in
     put-as (is-part 5 (c12 .args .part) (omega arith)) (c .before .before .put-text6 .ensures)
-
-slice-aggregate-put-text-7 : tie.Need-slice-aggregate-put-text-7
-slice-aggregate-put-text-7 c = search needs
 
 put-text-requires-7 : tie.Need-put-text-requires-7
 unfolding spaced partName
@@ -119,17 +80,11 @@ put-text-requires-7 c κs =
     let c10 = c .before .before .before .before .before .before .before .before .before .before in
     room-as (is-part 6 (c10 .args .part) (omega arith)) (c10 .pre)
 
-same-length-7 : tie.Need-same-length-7
-same-length-7 c = search needs
-
 returns-7 : tie.Need-returns-7
 unfolding spaced partName
 returns-7 c =
     let c13 = c .before .before .before .before .before .before .before .before .before .before .before .before .before in
     put-as (is-part 6 (c13 .args .part) (omega arith)) (c .before .before .put-text7 .ensures)
-
-slice-aggregate-put-text-8 : tie.Need-slice-aggregate-put-text-8
-slice-aggregate-put-text-8 c = search needs
 
 put-text-requires-8 : tie.Need-put-text-requires-8
 unfolding spaced partName
@@ -137,26 +92,17 @@ put-text-requires-8 c κs =
     let c11 = c .before .before .before .before .before .before .before .before .before .before .before in
     room-as (is-part 7 (c11 .args .part) (omega arith)) (c11 .pre)
 
-same-length-8 : tie.Need-same-length-8
-same-length-8 c = search needs
-
 returns-8 : tie.Need-returns-8
 unfolding spaced partName
 returns-8 c =
     let c14 = c .before .before .before .before .before .before .before .before .before .before .before .before .before .before in
     put-as (is-part 7 (c14 .args .part) (omega arith)) (c .before .before .put-text8 .ensures)
 
-slice-aggregate-put-text-9 : tie.Need-slice-aggregate-put-text-9
-slice-aggregate-put-text-9 c = search needs
-
 put-text-requires-9 : tie.Need-put-text-requires-9
 unfolding spaced partName
 put-text-requires-9 c κs =
     let c11 = c .before .before .before .before .before .before .before .before .before .before .before in
     room-as (no-part (c11 .args .part) (omega arith)) (c11 .pre)
-
-same-length-9 : tie.Need-same-length-9
-same-length-9 c = search needs
 
 returns-9 : tie.Need-returns-9
 unfolding spaced partName
@@ -168,39 +114,8 @@ pub put-name-spec : {M : Type 1} → statement M
 put-name-spec =
     tie.close
     (tie.spec
-    slice-aggregate-put-text
-    put-text-requires
-    same-length
-    returns
-    slice-aggregate-put-text-2
-    put-text-requires-2
-    same-length-2
-    returns-2
-    slice-aggregate-put-text-3
-    put-text-requires-3
-    same-length-3
-    returns-3
-    slice-aggregate-put-text-4
-    put-text-requires-4
-    same-length-4
-    returns-4
-    slice-aggregate-put-text-5
-    put-text-requires-5
-    same-length-5
-    returns-5
-    slice-aggregate-put-text-6
-    put-text-requires-6
-    same-length-6
-    returns-6
-    slice-aggregate-put-text-7
-    put-text-requires-7
-    same-length-7
-    returns-7
-    slice-aggregate-put-text-8
-    put-text-requires-8
-    same-length-8
-    returns-8
-    slice-aggregate-put-text-9
-    put-text-requires-9
-    same-length-9
-    returns-9)
+    (search needs) put-text-requires (search needs) returns (search needs) put-text-requires-2 (search needs) returns-2
+    (search needs) put-text-requires-3 (search needs) returns-3 (search needs) put-text-requires-4 (search needs) returns-4
+    (search needs) put-text-requires-5 (search needs) returns-5 (search needs) put-text-requires-6 (search needs) returns-6
+    (search needs) put-text-requires-7 (search needs) returns-7 (search needs) put-text-requires-8 (search needs) returns-8
+    (search needs) put-text-requires-9 (search needs) returns-9)

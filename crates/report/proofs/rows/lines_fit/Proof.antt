@@ -23,12 +23,6 @@ row-length-requires c κs = search needs
 returns-2 : tie.Need-returns-2 Inv-loop μ-loop
 returns-2 c = fit-failed (c .before .before .before .loop .inv) (c .before .before .loop-test .taken) (c .before .row-length .ensures) (c .if2 .taken)
 
-add-i : tie.Need-add-i Inv-loop μ-loop
-add-i c = search needs
-
-loop-less : tie.Need-loop-less Inv-loop μ-loop
-loop-less c = search needs
-
 loop-again : tie.Need-loop-again Inv-loop μ-loop
 loop-again c = fit-turn (c .before .before .before .loop .inv) (c .before .before .loop-test .taken) (c .before .row-length .ensures) (c .if2 .left)
 
@@ -39,13 +33,4 @@ pub lines-fit-spec : {M : Type 1} → statement M
 lines-fit-spec =
     tie.close
     (tie.spec
-    Inv-loop
-    μ-loop
-    returns
-    loop-holds
-    row-length-requires
-    returns-2
-    add-i
-    loop-less
-    loop-again
-    returns-3)
+    Inv-loop μ-loop returns loop-holds row-length-requires returns-2 (search needs) (search needs) loop-again returns-3)

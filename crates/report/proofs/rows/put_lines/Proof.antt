@@ -18,12 +18,6 @@ put-row-requires c κs =
     let c7 = c .before .before .before .before .before .before .before in
     (search needs, search needs, search needs, search needs, row-room (c .before .before .loop .inv) (c .before .loop-test .taken) (c7 .pre .3))
 
-add-i : tie.Need-add-i Inv-loop μ-loop
-add-i c = search needs
-
-loop-less : tie.Need-loop-less Inv-loop μ-loop
-loop-less c = search needs
-
 loop-again : tie.Need-loop-again Inv-loop μ-loop
 loop-again c =
     let c4 = c .before .before .before .before in
@@ -37,15 +31,4 @@ returns : tie.Need-returns Inv-loop μ-loop
 returns c = list-ended (c .before .loop .inv) (c .loop-test .left)
 
 pub put-lines-spec : {M : Type 1} → statement M
-put-lines-spec =
-    tie.close
-    (tie.spec
-    Inv-loop
-    μ-loop
-    loop-holds
-    put-row-requires
-    add-i
-    loop-less
-    loop-again
-    same-length
-    returns)
+put-lines-spec = tie.close (tie.spec Inv-loop μ-loop loop-holds put-row-requires (search needs) (search needs) loop-again same-length returns)

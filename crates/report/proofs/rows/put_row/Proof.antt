@@ -4,12 +4,6 @@ use borrow.Author.Needs.{needs}
 use Rattle.report.proofs.rows.put_row.Statement.{statement}
 use Rattle.report.proofs.rows.put_row.Tie as tie
 
-mul-long : tie.Need-mul-long
-mul-long c = search needs
-
-shared-slice-read-long : tie.Need-shared-slice-read-long
-shared-slice-read-long c = search needs
-
 long-requires : tie.Need-long-requires
 long-requires c κs = search needs
 
@@ -18,18 +12,6 @@ next-place-requires c κs = search needs
 
 difference-requires : tie.Need-difference-requires
 difference-requires c κs = search needs
-
-mul-put-line : tie.Need-mul-put-line
-mul-put-line c = search needs
-
-shared-slice-read-put-line : tie.Need-shared-slice-read-put-line
-shared-slice-read-put-line c = search needs
-
-mul-long-2 : tie.Need-mul-long-2
-mul-long-2 c = search needs
-
-shared-slice-read-long-2 : tie.Need-shared-slice-read-long-2
-shared-slice-read-long-2 c = search needs
 
 long-requires-2 : tie.Need-long-requires-2
 long-requires-2 c κs = search needs
@@ -41,9 +23,6 @@ put-line-requires c κs =
     let c6 = c5 .before in
     let c12 = c6 .before .before .before .before .before .before in
     room-as (is-row _ _ _ _ _ _ (c6 .long .ensures .0) (c5 .next-place .ensures) (c4 .difference .ensures) (c .long2 .ensures .0)) (c12 .pre .4)
-
-same-length : tie.Need-same-length
-same-length c = search needs
 
 returns : tie.Need-returns
 returns c =
@@ -58,16 +37,5 @@ pub put-row-spec : {M : Type 1} → statement M
 put-row-spec =
     tie.close
     (tie.spec
-    mul-long
-    shared-slice-read-long
-    long-requires
-    next-place-requires
-    difference-requires
-    mul-put-line
-    shared-slice-read-put-line
-    mul-long-2
-    shared-slice-read-long-2
-    long-requires-2
-    put-line-requires
-    same-length
-    returns)
+    (search needs) (search needs) long-requires next-place-requires difference-requires (search needs) (search needs)
+    (search needs) (search needs) long-requires-2 put-line-requires (search needs) returns)

@@ -5,9 +5,6 @@ use borrow.Author.Needs.{needs}
 use Rattle.report.proofs.rows.row_length.Statement.{statement}
 use Rattle.report.proofs.rows.row_length.Tie as tie
 
-slice-aggregate-put-row : tie.Need-slice-aggregate-put-row
-slice-aggregate-put-row c = search needs
-
 put-row-requires : tie.Need-put-row-requires
 put-row-requires c κs =
     let c4 = c .before .before .before .before in
@@ -20,8 +17,5 @@ put-row-requires c κs =
           { fits = omega (arith, row-short (now (a .start)) (now (a .part)) (now (a .owner)) (a .n) (a .end) (a .i)) },
     )
 
-returns : tie.Need-returns
-returns c = search needs
-
 pub row-length-spec : {M : Type 1} → statement M
-row-length-spec = tie.close (tie.spec slice-aggregate-put-row put-row-requires returns)
+row-length-spec = tie.close (tie.spec (search needs) put-row-requires (search needs))

@@ -23,32 +23,11 @@ read c = record {
 returns : tie.Need-returns
 returns c = λ up. free-is-head _ _ _ (omega arith)
 
-cast-find-row : tie.Need-cast-find-row
-cast-find-row c = search needs
-
-find-row-requires : tie.Need-find-row-requires
-find-row-requires c κs = search needs
-
 enum-told : tie.Need-enum-told
 enum-told c = search needs
 
-enum-told-2 : tie.Need-enum-told-2
-enum-told-2 c = search needs
-
 returns-2 : tie.Need-returns-2
 returns-2 c = λ up. free-nowhere _ _ _ (λ e. omega arith) (rw (c .enum-told2 .given .1) at (c .before .before .find-row .ensures)) up
-
-cast-read-free : tie.Need-cast-read-free
-cast-read-free c = search needs
-
-read-free-requires : tie.Need-read-free-requires
-read-free-requires c κs = search needs
-
-enum-known-from : tie.Need-enum-known-from
-enum-known-from c = search needs
-
-enum-told-3 : tie.Need-enum-told-3
-enum-told-3 c = search needs
 
 returns-3 : tie.Need-returns-3
 returns-3 c = λ up. free-bad (record {
@@ -57,12 +36,6 @@ returns-3 c = λ up. free-bad (record {
   there = rw (c .before .before .before .enum-told .given .1) at (c .before .before .before .before .before .find-row .ensures);
   read = sym (c .enum-told3 .given .1) ∙ c .before .before .read-free .ensures .is;
 })
-
-cast-if2 : tie.Need-cast-if2
-cast-if2 c = search needs
-
-mul-if2 : tie.Need-mul-if2
-mul-if2 c = search needs
 
 add-if2 : tie.Need-add-if2
 add-if2 c = omega (arith, data-lies (read c), c .before .before .before .before .before .before .before .before .before .before .before)
@@ -80,20 +53,5 @@ pub check-free-spec : {M : Type 1} → statement M
 check-free-spec =
     tie.close
     (tie.spec
-    returns
-    cast-find-row
-    find-row-requires
-    enum-told
-    enum-told-2
-    returns-2
-    cast-read-free
-    read-free-requires
-    enum-known-from
-    enum-told-3
-    returns-3
-    cast-if2
-    mul-if2
-    add-if2
-    returns-4
-    match-segments-requires
-    returns-5)
+    returns (search needs) (search needs) enum-told (search needs) returns-2 (search needs) (search needs) (search needs)
+    (search needs) returns-3 (search needs) (search needs) add-if2 returns-4 match-segments-requires returns-5)

@@ -9,14 +9,8 @@ use Rattle.rows.specs.Segment.{segmentFits}
 use Rattle.rows.proofs.lists.is_segment.Statement.{statement}
 use Rattle.rows.proofs.lists.is_segment.Tie as tie
 
-sub-if1 : tie.Need-sub-if1
-sub-if1 c = search needs
-
 returns : tie.Need-returns
 returns c = let a = c .before .before .args in sym (not-all (segmentFits (now (a .file)) (a .at) (a .end) (a .first) (a .last)) (λ h. omega (arith, h)))
-
-be16-requires : tie.Need-be16-requires
-be16-requires c κs = search needs
 
 returns-2 : tie.Need-returns-2
 returns-2 c =
@@ -24,29 +18,11 @@ returns-2 c =
     let a = c4 .args in
     sym (not-all (segmentFits (now (a .file)) (a .at) (a .end) (a .first) (a .last)) (λ h. omega (arith, h)))
 
-add-be32 : tie.Need-add-be32
-add-be32 c = search needs
-
-be32-requires : tie.Need-be32-requires
-be32-requires c κs = search needs
-
-cast-if3 : tie.Need-cast-if3
-cast-if3 c = search needs
-
 returns-3 : tie.Need-returns-3
 returns-3 c =
     let c6 = c .before .before .before .before .before .before in
     let a = c6 .args in
     sym (not-all (segmentFits (now (a .file)) (a .at) (a .end) (a .first) (a .last)) (λ h. omega (arith, h)))
-
-add-be32-2 : tie.Need-add-be32-2
-add-be32-2 c = search needs
-
-be32-requires-2 : tie.Need-be32-requires-2
-be32-requires-2 c κs = search needs
-
-cast-result : tie.Need-cast-result
-cast-result c = search needs
 
 returns-4 : tie.Need-returns-4
 returns-4 c = last-decides _ _ _ _ _ (omega arith) (omega arith) (omega arith) (c .be322 .ensures)
@@ -55,15 +31,5 @@ pub is-segment-spec : {M : Type 1} → statement M
 is-segment-spec =
     tie.close
     (tie.spec
-    sub-if1
-    returns
-    be16-requires
-    returns-2
-    add-be32
-    be32-requires
-    cast-if3
-    returns-3
-    add-be32-2
-    be32-requires-2
-    cast-result
-    returns-4)
+    (search needs) returns (search needs) returns-2 (search needs) (search needs) (search needs) returns-3 (search needs)
+    (search needs) (search needs) returns-4)

@@ -16,24 +16,6 @@ abbrev μ-loop : tie.MeasureT-loop
 loop-holds : tie.Need-loop-holds Inv-loop μ-loop
 loop-holds c = began _ _ _ _ (omega arith)
 
-mul-long : tie.Need-mul-long Inv-loop μ-loop
-mul-long c = search needs
-
-shared-slice-read-long : tie.Need-shared-slice-read-long Inv-loop μ-loop
-shared-slice-read-long c = search needs
-
-long-requires : tie.Need-long-requires Inv-loop μ-loop
-long-requires c κs = search needs
-
-gap-size-requires : tie.Need-gap-size-requires Inv-loop μ-loop
-gap-size-requires c κs = search needs
-
-add-is-segment : tie.Need-add-is-segment Inv-loop μ-loop
-add-is-segment c = search needs
-
-is-segment-requires : tie.Need-is-segment-requires Inv-loop μ-loop
-is-segment-requires c κs = search needs
-
 returns : tie.Need-returns Inv-loop μ-loop
 returns c =
     let c3 = c .before .before .before in
@@ -41,15 +23,6 @@ returns c =
     let c7 = c4 .before .before .before in
     unmatched (c7 .loop .inv) (omega arith) _ _ (c4 .long .ensures .0) (c3 .gap-size .ensures .0) (λ e. omega arith) (c .before .is-segment .ensures)
     (c .if2 .taken)
-
-add-at : tie.Need-add-at Inv-loop μ-loop
-add-at c = search needs
-
-add-i : tie.Need-add-i Inv-loop μ-loop
-add-i c = search needs
-
-loop-less : tie.Need-loop-less Inv-loop μ-loop
-loop-less c = search needs
 
 loop-again : tie.Need-loop-again Inv-loop μ-loop
 loop-again c =
@@ -61,14 +34,8 @@ loop-again c =
     (λ x. rw (x .1) (passed-over w (omega arith) _ _ (c .before .before .long .ensures .0) (c .before .gap-size .ensures .0) (omega (arith, x .0))))
     (c .if1 .came)
 
-sub-if3 : tie.Need-sub-if3 Inv-loop μ-loop
-sub-if3 c = search needs
-
 returns-2 : tie.Need-returns-2 Inv-loop μ-loop
 returns-2 c = left-over (c .before .before .loop .inv) (omega arith) (λ e. omega arith)
-
-is-segment-requires-2 : tie.Need-is-segment-requires-2 Inv-loop μ-loop
-is-segment-requires-2 c κs = search needs
 
 returns-3 : tie.Need-returns-3 Inv-loop μ-loop
 returns-3 c = ended (c .before .before .before .loop .inv) (omega arith) (omega arith) (c .is-segment2 .ensures)
@@ -77,21 +44,5 @@ pub match-segments-spec : {M : Type 1} → statement M
 match-segments-spec =
     tie.close
     (tie.spec
-    Inv-loop
-    μ-loop
-    loop-holds
-    mul-long
-    shared-slice-read-long
-    long-requires
-    gap-size-requires
-    add-is-segment
-    is-segment-requires
-    returns
-    add-at
-    add-i
-    loop-less
-    loop-again
-    sub-if3
-    returns-2
-    is-segment-requires-2
-    returns-3)
+    Inv-loop μ-loop loop-holds (search needs) (search needs) (search needs) (search needs) (search needs) (search needs) returns
+    (search needs) (search needs) (search needs) loop-again (search needs) returns-2 (search needs) returns-3)

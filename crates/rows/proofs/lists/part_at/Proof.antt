@@ -12,12 +12,6 @@ returns-2 c = part-free _ _ _ (c .before .before .if1 .left) (c .if2 .taken)
 returns-3 : tie.Need-returns-3
 returns-3 c = part-info _ _ _ (c .before .before .before .before .if1 .left) (c .before .before .if2 .left) (c .if3 .taken)
 
-long-requires : tie.Need-long-requires
-long-requires c κs = search needs
-
-gap-size-requires : tie.Need-gap-size-requires
-gap-size-requires c κs = search needs
-
 returns-4 : tie.Need-returns-4
 returns-4 c =
     let c3 = c .before .before .before in
@@ -33,6 +27,4 @@ returns-5 c =
     part-gap _ _ _ (c7 .if1 .left) (c5 .if2 .left) (c3 .if3 .left) (c .before .before .long .ensures .0) (c .before .gap-size .ensures .0) (c .if4 .left)
 
 pub part-at-spec : {M : Type 1} → statement M
-part-at-spec =
-    tie.close
-    (tie.spec returns returns-2 returns-3 long-requires gap-size-requires returns-4 returns-5)
+part-at-spec = tie.close (tie.spec returns returns-2 returns-3 (search needs) (search needs) returns-4 returns-5)

@@ -10,14 +10,8 @@ use Rattle.wire.proofs.number.word.Reads as word-reads
 returns : tie.Need-returns
 returns c = sym (num-out 4 _ _ (omega arith))
 
-sub-if2 : tie.Need-sub-if2
-sub-if2 c = search needs
-
 returns-2 : tie.Need-returns-2
 returns-2 c = sym (num-out 4 _ _ (omega arith))
-
-word-requires : tie.Need-word-requires
-word-requires c κs = search needs
 
 returns-3 : tie.Need-returns-3
 returns-3 c =
@@ -25,4 +19,4 @@ returns-3 c =
     c .word .ensures .value ∙ sym (num-in 4 (now (a .s)) (a .at) (omega arith) ∙ value4 (now (a .s)) (a .at))
 
 pub be32-spec : {M : Type 1} → statement M
-be32-spec = tie.close (tie.spec returns sub-if2 returns-2 word-requires returns-3)
+be32-spec = tie.close (tie.spec returns (search needs) returns-2 (search needs) returns-3)

@@ -4,14 +4,8 @@ use borrow.Author.Needs.{needs}
 use Rattle.wire.proofs.number.signed16.Statement.{statement}
 use Rattle.wire.proofs.number.signed16.Tie as tie
 
-cast-result : tie.Need-cast-result
-cast-result c = search needs
-
 returns : tie.Need-returns
 returns c = low (c .before .args .raw) (omega arith)
-
-cast-result-2 : tie.Need-cast-result-2
-cast-result-2 c = search needs
 
 sub-result : tie.Need-sub-result
 sub-result c = less-fits (c .before .args .raw) (omega arith)
@@ -20,4 +14,4 @@ returns-2 : tie.Need-returns-2
 returns-2 c = high (c .before .args .raw) (omega arith) (omega arith)
 
 pub signed16-spec : {M : Type 1} → statement M
-signed16-spec = tie.close (tie.spec cast-result returns cast-result-2 sub-result returns-2)
+signed16-spec = tie.close (tie.spec (search needs) returns (search needs) sub-result returns-2)

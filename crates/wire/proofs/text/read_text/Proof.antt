@@ -13,9 +13,6 @@ returns-2 : tie.Need-returns-2
 unfolding textSize textOf textAt
 returns-2 c = is-cut _ _ _ (λ h. omega (arith, h))
 
-shared-slice-read-len : tie.Need-shared-slice-read-len
-shared-slice-read-len c = search needs
-
 cast-len : tie.Need-cast-len
 cast-len c = omega (arith, c .shared-slice-known .given (c .before .before .before .args .at))
 
@@ -23,21 +20,9 @@ returns-3 : tie.Need-returns-3
 unfolding textSize textOf textAt
 returns-3 c = is-cut _ _ _ (λ h. omega (arith, h))
 
-sub-if4 : tie.Need-sub-if4
-sub-if4 c = search needs
-
 returns-4 : tie.Need-returns-4
 unfolding textSize textOf textAt
 returns-4 c = is-cut _ _ _ (λ h. omega (arith, h))
-
-add-t5 : tie.Need-add-t5
-add-t5 c = search needs
-
-add-t9 : tie.Need-add-t9
-add-t9 c = search needs
-
-add-t10 : tie.Need-add-t10
-add-t10 c = search needs
 
 returns-5 : tie.Need-returns-5
 unfolding textSize textOf textAt
@@ -47,14 +32,5 @@ pub read-text-spec : {M : Type 1} → statement M
 read-text-spec =
     tie.close
     (tie.spec
-    returns
-    returns-2
-    shared-slice-read-len
-    cast-len
-    returns-3
-    sub-if4
-    returns-4
-    add-t5
-    add-t9
-    add-t10
+    returns returns-2 (search needs) cast-len returns-3 (search needs) returns-4 (search needs) (search needs) (search needs)
     returns-5)

@@ -19,23 +19,8 @@ returns c = uneven _ _ (λ e. omega arith)
 loop-holds : tie.Need-loop-holds Inv-loop μ-loop
 loop-holds c = began _ _ (omega arith)
 
-sub-if2 : tie.Need-sub-if2 Inv-loop μ-loop
-sub-if2 c = search needs
-
-shared-slice-read-if3 : tie.Need-shared-slice-read-if3 Inv-loop μ-loop
-shared-slice-read-if3 c = search needs
-
-shared-slice-read-if3-2 : tie.Need-shared-slice-read-if3-2 Inv-loop μ-loop
-shared-slice-read-if3-2 c = search needs
-
 returns-2 : tie.Need-returns-2 Inv-loop μ-loop
 returns-2 c = differ (c .before .before .before .before .before .loop .inv) (omega arith) (λ e. omega arith)
-
-add-i : tie.Need-add-i Inv-loop μ-loop
-add-i c = search needs
-
-loop-less : tie.Need-loop-less Inv-loop μ-loop
-loop-less c = search needs
 
 loop-again : tie.Need-loop-again Inv-loop μ-loop
 loop-again c = turn (c .before .before .before .before .before .loop .inv) (omega arith) (omega arith)
@@ -49,12 +34,6 @@ word-requires-2 c κs = omega arith
 returns-3 : tie.Need-returns-3 Inv-loop μ-loop
 returns-3 c = differ-four _ _ _ _ _ (c .before .before .word .ensures) (c .before .word2 .ensures) (λ e. omega arith)
 
-add-i-2 : tie.Need-add-i-2 Inv-loop μ-loop
-add-i-2 c = search needs
-
-loop-less-2 : tie.Need-loop-less-2 Inv-loop μ-loop
-loop-less-2 c = search needs
-
 loop-again-2 : tie.Need-loop-again-2 Inv-loop μ-loop
 loop-again-2 c =
     turn-four _ _ (c .before .before .before .before .before .loop .inv) (omega arith) (c .before .before .word .ensures)
@@ -67,21 +46,5 @@ pub same-spec : {M : Type 1} → statement M
 same-spec =
     tie.close
     (tie.spec
-    Inv-loop
-    μ-loop
-    returns
-    loop-holds
-    sub-if2
-    shared-slice-read-if3
-    shared-slice-read-if3-2
-    returns-2
-    add-i
-    loop-less
-    loop-again
-    word-requires
-    word-requires-2
-    returns-3
-    add-i-2
-    loop-less-2
-    loop-again-2
-    returns-4)
+    Inv-loop μ-loop returns loop-holds (search needs) (search needs) (search needs) returns-2 (search needs) (search needs)
+    loop-again word-requires word-requires-2 returns-3 (search needs) (search needs) loop-again-2 returns-4)

@@ -14,9 +14,6 @@ Inv-loop part₀ t i₀ part i = Copying part₀ t part i
 abbrev μ-loop : tie.MeasureT-loop
 μ-loop part₀ t i₀ part i = length t - i
 
-cast-part : tie.Need-cast-part Inv-loop μ-loop
-cast-part c = search needs
-
 slice-write-part : tie.Need-slice-write-part Inv-loop μ-loop
 unfolding textSize
 slice-write-part c = search needs
@@ -25,20 +22,8 @@ loop-holds : tie.Need-loop-holds Inv-loop μ-loop
 unfolding textSize
 loop-holds c = copy-began _ _ (rw length-set (omega arith))
 
-shared-slice-read-part : tie.Need-shared-slice-read-part Inv-loop μ-loop
-shared-slice-read-part c = search needs
-
-add-part : tie.Need-add-part Inv-loop μ-loop
-add-part c = search needs
-
 slice-write-part-2 : tie.Need-slice-write-part-2 Inv-loop μ-loop
 slice-write-part-2 c = omega (arith, copy-length (c .before .before .loop .inv))
-
-add-i : tie.Need-add-i Inv-loop μ-loop
-add-i c = search needs
-
-loop-less : tie.Need-loop-less Inv-loop μ-loop
-loop-less c = search needs
 
 loop-again : tie.Need-loop-again Inv-loop μ-loop
 loop-again c = copy-turn (c .before .before .loop .inv) (omega arith)
@@ -54,16 +39,5 @@ pub put-text-spec : {M : Type 1} → statement M
 put-text-spec =
     tie.close
     (tie.spec
-    Inv-loop
-    μ-loop
-    cast-part
-    slice-write-part
-    loop-holds
-    shared-slice-read-part
-    add-part
-    slice-write-part-2
-    add-i
-    loop-less
-    loop-again
-    same-length
-    returns)
+    Inv-loop μ-loop (search needs) slice-write-part loop-holds (search needs) (search needs) slice-write-part-2 (search needs)
+    (search needs) loop-again same-length returns)

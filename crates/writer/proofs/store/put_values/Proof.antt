@@ -15,26 +15,11 @@ abbrev μ-loop : tie.MeasureT-loop
 loop-holds : tie.Need-loop-holds Inv-loop μ-loop
 loop-holds c = lay-began _ _ _ (omega arith) (omega arith)
 
-mul-w : tie.Need-mul-w Inv-loop μ-loop
-mul-w c = search needs
-
-shared-slice-read-w : tie.Need-shared-slice-read-w Inv-loop μ-loop
-shared-slice-read-w c = search needs
-
 sub-put-number : tie.Need-sub-put-number Inv-loop μ-loop
 sub-put-number c = let h = c .before .before .loop .inv in omega (arith, lay-room h (omega arith))
 
 part-put-number-start : tie.Need-part-put-number-start Inv-loop μ-loop
 part-put-number-start c = let h = c .before .before .loop .inv in omega (arith, lay-room h (omega arith))
-
-part-put-number-end : tie.Need-part-put-number-end Inv-loop μ-loop
-part-put-number-end c = search needs
-
-mul-put-number : tie.Need-mul-put-number Inv-loop μ-loop
-mul-put-number c = search needs
-
-shared-slice-read-put-number : tie.Need-shared-slice-read-put-number Inv-loop μ-loop
-shared-slice-read-put-number c = search needs
 
 put-number-requires : tie.Need-put-number-requires Inv-loop μ-loop
 put-number-requires c κs = let h = c .before .before .before .before .loop .inv in omega (arith, lay-room h (omega arith))
@@ -44,12 +29,6 @@ add-at c =
     let d = c .before .before .before .before .before .before .before in
     let h = d .loop .inv in
     omega (arith, lay-room h (omega arith), lay-length h, d .before .before .before)
-
-add-i : tie.Need-add-i Inv-loop μ-loop
-add-i c = search needs
-
-loop-less : tie.Need-loop-less Inv-loop μ-loop
-loop-less c = search needs
 
 loop-again : tie.Need-loop-again Inv-loop μ-loop
 loop-again c =
@@ -65,20 +44,5 @@ pub put-values-spec : {M : Type 1} → statement M
 put-values-spec =
     tie.close
     (tie.spec
-    Inv-loop
-    μ-loop
-    loop-holds
-    mul-w
-    shared-slice-read-w
-    sub-put-number
-    part-put-number-start
-    part-put-number-end
-    mul-put-number
-    shared-slice-read-put-number
-    put-number-requires
-    add-at
-    add-i
-    loop-less
-    loop-again
-    same-length
-    returns)
+    Inv-loop μ-loop loop-holds (search needs) (search needs) sub-put-number part-put-number-start (search needs) (search needs)
+    (search needs) put-number-requires add-at (search needs) (search needs) loop-again same-length returns)
