@@ -6,10 +6,7 @@ use lib.ListN.{getD}
 use Rattle.wire.specs.Check.{Check, le, eq, all, pick}
 use Rattle.wire.specs.Layout.{offsetWidth, extent, valuesAt}
 use Rattle.wire.specs.Number.{signedOf}
-use Rattle.wire.specs.Text.{textIn, textSize}
-use Rattle.wire.specs.declared.text.Text.{Text}
-use Rattle.wire.specs.declared.text.Found.{Found}
-use Rattle.wire.specs.declared.text.Found.the-variants as text
+use Rattle.wire.specs.Text.{textIn, onText, textSize}
 use Rattle.key.specs.declared.header.Names.{Names}
 use Rattle.key.specs.declared.header.Named.{Named}
 use Rattle.key.specs.declared.header.Named.the-variants.{Held, Cut}
@@ -25,17 +22,14 @@ keyLayout w = 4 ∷ 2 ∷ 4 ∷ 4 ∷ 2 ∷ 2 ∷ w ∷ w ∷ []
 abbrev pub fixedPart : ℕ → ℕ
 fixedPart w = extent (keyLayout w)
 
--- go on with a string that was read
-abbrev pub onText : Found → (Text → Named) → Named
-onText (text.Held t) f = f t
-onText text.Cut f = Cut
-
 -- class, name and title, one after the other from p on, read within the bytes before end
 unfoldable pub namesIn : List ℕ → ℕ → ℕ → Named
 namesIn s p end =
-    onText (textIn s p end)
-    (λ class. onText (textIn s (class .next) end)
-    (λ name. onText (textIn s (name .next) end) (λ title. Held (record { class = class; name = name; title = title }))))
+    onText Cut (λ class.
+    onText Cut (λ name.
+    onText Cut (λ title. Held (record { class = class; name = name; title = title })) (textIn s (name .next) end))
+    (textIn s (class .next) end))
+    (textIn s p end)
 
 -- the key of numbers in the order of the layout, and of three strings; Cycle is signed
 abbrev pub keyFrom : List ℕ → Names → Key

@@ -10,7 +10,9 @@ fits : (c : tie.After-struct-told) → toZ w32 (ofZ w32 (c .before .args .k .cyc
 fits c = search needs
 
 returns : tie.Need-returns
-returns c = rw (c .before .before .before .before .before .before .before .before .before .stored-cycle .ensures ∙ ap storedCycle (fits (c .before .before .before .before .before .before .before .before .before .before))) refl
+returns c =
+    let d = c .before .before .before .before .before .before .before .before .before in
+    rw (d .stored-cycle .ensures ∙ ap storedCycle (fits (d .before))) refl
 
 pub show-record-spec : {M : Type 1} → statement M
 show-record-spec = tie.close (tie.spec (search needs) (search needs) (search needs) (search needs) (search needs) (search needs) returns)

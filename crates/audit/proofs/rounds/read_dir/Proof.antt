@@ -19,7 +19,9 @@ read-sub-requires : tie.Need-read-sub-requires
 read-sub-requires c κs = search needs
 
 returns-2 : tie.Need-returns-2
-returns-2 c = sub-dir _ _ _ _ (c .before .before .before .if1 .left) (c .before .before .long .ensures .0) (c .before .long2 .ensures .0) (c .read-sub .ensures .is)
+returns-2 c =
+    sub-dir _ _ _ _ (c .before .before .before .if1 .left) (c .before .before .long .ensures .0) (c .before .long2 .ensures .0)
+    (c .read-sub .ensures .is)
 
 pub read-dir-spec : {M : Type 1} → statement M
 read-dir-spec =
