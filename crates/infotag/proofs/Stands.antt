@@ -1,26 +1,24 @@
 -- Tags stand in the record: what a tag that was taken means, and that the tags seen keep it.
-use Prim.Native.Nat.{ℕ, zero, suc, _+_, _-_, _<_, _≤_}
+use Prim.Native.Nat.{ℕ, zero, suc, _+_, _-_, _<_}
 use mathlib.Core.List.{List, [], _∷_, _++_}
 use mathlib.Core.Bool.{Bool, true, false}
-use mathlib.Core.Path.{_≡_, refl, sym, ap, _∙_}
+use mathlib.Core.Path.{_≡_, refl, sym, _∙_}
 use native.Mathlib.Numerals.{add-one}
 use native.Mathlib.Omega.{arith}
 use borrow.Author.Tests.{eq-eqb}
 use lib.ListN.{length, getD, set, take, drop, replicate, length-take}
 use lib.Seq.{length-take-le, take-suc, getD-take}
-use Rattle.wire.specs.Check.{all, All, pick}
+use Rattle.wire.specs.Check.{All, pick}
 use Rattle.wire.specs.Equal.{eqBytes}
 use Rattle.wire.specs.Number.{numAt}
-use Rattle.wire.proofs.Checks.{picked}
 use Rattle.wire.proofs.Equal.{eq-same, same-eq}
 use Rattle.infofield.specs.Field.{countAt}
 use Rattle.infofield.proofs.Steps.{each-count, from-open}
-use Rattle.infotag.specs.Tag.{between, firstIn, classNames, classIn, classOf, onZero, classNameAt, tagAt, onTag, headAt}
-use Rattle.infotag.specs.Stand.{nameOf, tagStands, newTagOf, lookedUp}
+use Rattle.infotag.specs.Tag.{between, firstIn, classNames, classIn, classOf, onZero, classNameAt, offsetOf, beside, tagAt, onTag, headAt}
+use Rattle.infotag.specs.Stand.{nameOf, tagStands, newTagOf}
 use Rattle.infotag.specs.declared.tag.First.{First}
 use Rattle.infotag.specs.declared.tag.First.the-variants.{At, Nowhere}
-use Rattle.infotag.specs.declared.tag.Class.{Class}
-use Rattle.infotag.specs.declared.tag.Class.the-variants.{Named, Cut}
+use Rattle.infotag.specs.declared.tag.Class.the-variants.{Named}
 use Rattle.infotag.specs.declared.tag.Tag.{Tag}
 use Rattle.infotag.specs.declared.tag.Tag.the-variants.{Known, Wrong}
 use Rattle.infotag.specs.declared.tag.Head.{Head}
@@ -98,11 +96,11 @@ module _ (s : List ℕ) (rec : ℕ) where
       each-tag s rec p e low high ts (Taken p) (λ c r. tt)
       (λ c r i j f.
       let k : All (tagStands s p c) = (i, (named-stands s (p + 4) e c r j (omega (arith, f .1 .0)), tt)) in
-      (rw (eq-eqb _ _ i) k, λ n. let m : rec + (p - rec) ≡ p = omega (arith, n) in rw m k))
+      (rw (eq-eqb _ _ i) k, λ n. let m : rec + offsetOf rec p ≡ p = omega (arith, n) in rw m k))
       (λ c q i v j f.
-      let g = first-holds ts (numAt 4 s p - 2147483650) c j .1 in
+      let g = first-holds ts (numAt 4 s p - beside) c j .1 in
       let k = rw g at (h c) in
-      let m : numAt 4 s p - 2147483648 - 2 ≡ numAt 4 s p - 2147483650 = omega arith in
+      let m : numAt 4 s p - 2147483648 - 2 ≡ numAt 4 s p - beside = omega arith in
       (rw (i, m) (k (λ z. omega arith)), k))
 
   -- an object's head at p that was taken with the tags ts

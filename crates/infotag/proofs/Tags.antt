@@ -12,7 +12,7 @@ use Rattle.wire.specs.Number.{numAt}
 use Rattle.wire.proofs.Checks.{yes-all, not-all, all-or, picked, not-picked}
 use Rattle.infofield.specs.Field.{andThen, fieldAt, countAt, counted}
 use Rattle.infofield.proofs.Steps.{each-step, each-count, from-open}
-use Rattle.infotag.specs.Tag.{firstIn, classNameAt, allowed, fresh, onName, newTag, onOffset, oldTag, tagAt, onTag, headAt, headed}
+use Rattle.infotag.specs.Tag.{firstIn, classNameAt, allowed, fresh, offsetOf, onName, newTag, beside, onOffset, oldTag, tagAt, onTag, headAt, headed}
 use Rattle.infofield.specs.declared.field.Step.{Step}
 use Rattle.infofield.specs.declared.field.Step.the-variants as step
 use Rattle.infofield.specs.declared.field.Count.{Count}
@@ -37,20 +37,20 @@ module _ (s : List ℕ) (rec p q e low high : ℕ) (ts : List ℕ) {y : Class} (
   unfolding newTag
   misnamed {c} g h = rw (sym is ∙ g) (sym (not-picked (fresh ts low high c) _ _ h))
 
-  pub named : {c r o : ℕ} → y ≡ Named c r → o ≡ p - rec → All (fresh ts low high c) → Known c o r ≡ newTag s rec p q e low high ts
+  pub named : {c r o : ℕ} → y ≡ Named c r → o ≡ offsetOf rec p → All (fresh ts low high c) → Known c o r ≡ newTag s rec p q e low high ts
   unfolding newTag
   named {c} g i h = rw (sym is ∙ g, i) (sym (picked (fresh ts low high c) _ _ h))
 
 -- a number that refers to a tag
 module _ (v p q low high : ℕ) (ts : List ℕ) where
-  pub too-low : v ≤ 2147483650 → Wrong 22 p ≡ oldTag v p q low high ts
+  pub too-low : v ≤ beside → Wrong 22 p ≡ oldTag v p q low high ts
   unfolding oldTag
-  too-low h = rw (le-leb v 2147483650 h)
+  too-low h = rw (le-leb v beside h)
 
-  module _ (o : ℕ) (l : 2147483650 < v) (i : o ≡ v - 2147483650) {y : First} (is : y ≡ firstIn ts o) where
+  module _ (o : ℕ) (l : beside < v) (i : o ≡ v - beside) {y : First} (is : y ≡ firstIn ts o) where
     found : oldTag v p q low high ts ≡ onOffset y o p q low high
     unfolding oldTag
-    found = rw (lt-leb v 2147483650 l, ← i, ← is)
+    found = rw (lt-leb v beside l, ← i, ← is)
 
     pub no-tag : y ≡ Nowhere → Wrong 22 p ≡ oldTag v p q low high ts
     no-tag g = rw (found, g)
@@ -112,31 +112,31 @@ after-field n p e q = go (leb (p + n) e)
 
 -- what holds of a tag: of every fault, of a new tag, and of one that was followed
 module _ (s : List ℕ) (rec p e low high : ℕ) (ts : List ℕ) (P : Tag → Type 0) (w : (c r : ℕ) → P (Wrong c r)) where
-  each-new : (q : ℕ) → ((c r : ℕ) → classNameAt s q e ≡ Named c r → All (fresh ts low high c) → P (Known c (p - rec) r))
+  each-new : (q : ℕ) → ((c r : ℕ) → classNameAt s q e ≡ Named c r → All (fresh ts low high c) → P (Known c (offsetOf rec p) r))
       → P (newTag s rec p q e low high ts)
   unfolding newTag
   each-new q new = go (classNameAt s q e) refl
     where
       go : (x : Class) → classNameAt s q e ≡ x → P (onName x rec p low high ts)
       go Cut i = w 21 p
-      go (Named c r) i = picked-tag P w (fresh ts low high c) (Known c (p - rec) r) p (new c r i)
+      go (Named c r) i = picked-tag P w (fresh ts low high c) (Known c (offsetOf rec p) r) p (new c r i)
 
-  each-old : (v q : ℕ) → ((c : ℕ) → 2147483650 < v → firstIn ts (v - 2147483650) ≡ At c → All (allowed low high c)
-      → P (Known c (v - 2147483650) q)) → P (oldTag v p q low high ts)
+  each-old : (v q : ℕ) → ((c : ℕ) → beside < v → firstIn ts (v - beside) ≡ At c → All (allowed low high c)
+      → P (Known c (v - beside) q)) → P (oldTag v p q low high ts)
   unfolding oldTag
-  each-old v q old = go (leb v 2147483650) refl
+  each-old v q old = go (leb v beside) refl
     where
-      at : 2147483650 < v → (x : First) → firstIn ts (v - 2147483650) ≡ x → P (onOffset x (v - 2147483650) p q low high)
+      at : beside < v → (x : First) → firstIn ts (v - beside) ≡ x → P (onOffset x (v - beside) p q low high)
       at l Nowhere i = w 22 p
-      at l (At c) i = picked-tag P w (allowed low high c) (Known c (v - 2147483650) q) p (old c l i)
+      at l (At c) i = picked-tag P w (allowed low high c) (Known c (v - beside) q) p (old c l i)
 
-      go : (b : Bool) → leb v 2147483650 ≡ b → P (pick b (Wrong 22 p) (onOffset (firstIn ts (v - 2147483650)) (v - 2147483650) p q low high))
+      go : (b : Bool) → leb v beside ≡ b → P (pick b (Wrong 22 p) (onOffset (firstIn ts (v - beside)) (v - beside) p q low high))
       go true i = w 22 p
-      go false i = at (leb-false v 2147483650 i) (firstIn ts (v - 2147483650)) refl
+      go false i = at (leb-false v beside i) (firstIn ts (v - beside)) refl
 
   pub each-tag : (new : (c r : ℕ) → numAt 4 s p ≡ 4294967295 → classNameAt s (p + 4) e ≡ Named c r → All (fresh ts low high c)
-      → P (Known c (p - rec) r)) → (old : (c q : ℕ) → eqb (numAt 4 s p) 4294967295 ≡ false → 2147483650 < numAt 4 s p
-      → firstIn ts (numAt 4 s p - 2147483650) ≡ At c → All (allowed low high c) → P (Known c (numAt 4 s p - 2147483650) q))
+      → P (Known c (offsetOf rec p) r)) → (old : (c q : ℕ) → eqb (numAt 4 s p) 4294967295 ≡ false → beside < numAt 4 s p
+      → firstIn ts (numAt 4 s p - beside) ≡ At c → All (allowed low high c) → P (Known c (numAt 4 s p - beside) q))
       → P (tagAt s rec p e low high ts)
   unfolding tagAt
   each-tag new old =

@@ -24,17 +24,17 @@ tagStands s a c =
 unfoldable pub newTagOf : List ℕ → ℕ → ℕ → ℕ
 newTagOf s rec q = pick (eqb (numAt 4 s q) 4294967295) q (rec + (numAt 4 s q - 2147483648 - 2))
 
--- the head at p of an object, whose tag follows the ByteCount; number 0, which no fault has, where the class that it was taken as does not
--- stand in the record
+-- an object's head, with its ByteCount at p and its tag after that: 0, which no fault has, where the class that it was taken as does not
+-- stand in the record at rec
 abbrev pub lookedUp : List ℕ → ℕ → ℕ → Head → Head
 lookedUp s rec p (Known h) = pick (all (tagStands s (newTagOf s rec (p + 4)) (h .class))) (Known h) (Wrong 0 (p + 4))
 lookedUp s rec p (Wrong c q) = Wrong c q
 
--- how a reader takes tags: by those that it remembers; or so, and every tag is looked up in the record once more
+-- how a reader takes tags: by those that it remembers; or so, and each is looked up once more in the record at a place
 pub data Look : Type 0 where
   once : Look
-  twice : Look
+  twice : ℕ → Look
 
 abbrev pub headBy : Look → List ℕ → ℕ → ℕ → ℕ → ℕ → ℕ → List ℕ → Head
 headBy once s rec p e low high ts = headAt s rec p e low high ts
-headBy twice s rec p e low high ts = lookedUp s rec p (headAt s rec p e low high ts)
+headBy (twice at) s rec p e low high ts = lookedUp s at p (headAt s rec p e low high ts)
