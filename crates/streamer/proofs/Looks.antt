@@ -50,7 +50,7 @@ record Agree (s : List ℕ) (rec : ℕ) (x y : Run) : Type 0 where
   same : x ≡ y
   stand : Standing s rec x
 
-module _ (s : List ℕ) (rec : ℕ) where
+module _ {s : List ℕ} {rec : ℕ} where
   stops : (c p : ℕ) → Agree s rec (stop c p) (stop c p)
   stops c p = record { same = refl; stand = tt }
 
@@ -133,44 +133,44 @@ module _ (s : List ℕ) (o : Owner) where
   element-both : (e : ℕ) → Both (elementAt once s o e) (elementAt (twice (o .rec)) s o e)
   unfolding elementAt
   element-both e ts p t =
-      on-looked s (o .rec) ts p _ (head-kept s (o .rec) p e 2 11 ts (omega arith) t) (λ h u.
-      on-fields s (o .rec) _ (λ m.
-      on-step s (o .rec) _ (λ d. goes s (o .rec) _ _ d u)))
+      on-looked ts p _ (head-kept s (o .rec) p e 2 11 ts (omega arith) t) (λ h u.
+      on-fields _ (λ m.
+      on-step _ (λ d. goes _ _ d u)))
 
   array-body-both : (e : ℕ) → Both (arrayBody once s o e) (arrayBody (twice (o .rec)) s o e)
   unfolding arrayBody
   array-body-both e ts p t =
-      on-count s (o .rec) _ p (λ q f.
-      on-sized s (o .rec) _ (λ n.
-      on-step s (o .rec) _ (λ a.
-      on-end s (o .rec) f _ (on-times s (o .rec) _ _ (λ k. element-both f) ts a (n .count) t))))
+      on-count _ p (λ q f.
+      on-sized _ (λ n.
+      on-step _ (λ a.
+      on-end f _ (on-times _ _ (λ k. element-both f) ts a (n .count) t))))
 
   array-both : (e : ℕ) → Both (arrayAt once s o e) (arrayAt (twice (o .rec)) s o e)
   unfolding arrayAt
   array-both e ts p t =
-      on-looked s (o .rec) ts p _ (head-kept s (o .rec) p e 1 1 ts (omega arith) t) (λ h u.
-      on-end s (o .rec) (h .close) _ (array-body-both (h .close) _ (h .next) u))
+      on-looked ts p _ (head-kept s (o .rec) p e 1 1 ts (omega arith) t) (λ h u.
+      on-end (h .close) _ (array-body-both (h .close) _ (h .next) u))
 
   class-body-both : (e : ℕ) → Both (classBody once s o e) (classBody (twice (o .rec)) s o e)
   unfolding classBody
   class-body-both e ts p t =
-      on-opened s (o .rec) _ (λ b.
-      on-name s (o .rec) _ (λ n.
-      on-step s (o .rec) _ (λ a.
-      on-end s (o .rec) (b .close) _ (array-both (b .close) ts a t))))
+      on-opened _ (λ b.
+      on-name _ (λ n.
+      on-step _ (λ a.
+      on-end (b .close) _ (array-both (b .close) ts a t))))
 
   class-both : (e : ℕ) → Both (classAt once s o e) (classAt (twice (o .rec)) s o e)
   unfolding classAt
   class-both e ts p t =
-      on-looked s (o .rec) ts p _ (head-kept s (o .rec) p e 0 0 ts (omega arith) t) (λ h u.
-      on-end s (o .rec) (h .close) _ (class-body-both (h .close) _ (h .next) u))
+      on-looked ts p _ (head-kept s (o .rec) p e 0 0 ts (omega arith) t) (λ h u.
+      on-end (h .close) _ (class-body-both (h .close) _ (h .next) u))
 
 list-both : (s : List ℕ) (rec p e : ℕ) → Agree s rec (listAt once s rec p e) (listAt (twice rec) s rec p e)
 unfolding listAt
 list-both s rec p e =
-    on-count s rec _ p (λ q f.
-    on-sized s rec _ (λ n.
-    on-end s rec f _ (on-times s rec _ _ (λ k. class-both s (ownerOf rec k) f) _ (n .next) (n .count) (none-stand s rec 12))))
+    on-count _ p (λ q f.
+    on-sized _ (λ n.
+    on-end f _ (on-times _ _ (λ k. class-both s (ownerOf rec k) f) _ (n .next) (n .count) (none-stand s rec 12))))
 
 pub looks : (s : List ℕ) (p : ℕ) → infoAt once s p ≡ infoAt (twice p) s p
 unfolding infoAt recordAt

@@ -1,4 +1,4 @@
--- The StreamerInfo record: document 002, object by object; document 01, "StreamerInfo (002)".
+-- The StreamerInfo record: document 002, object by object; document 01, "StreamerInfo (002)". Its tags are taken as l says.
 use Prim.Native.Nat.{ℕ, _+_, _/_}
 use mathlib.Core.Path.{_≡_}
 use mathlib.Core.List.{List, []}

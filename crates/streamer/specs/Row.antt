@@ -54,7 +54,7 @@ rowOf o kind m = record {
   length = m .length;
 }
 
--- an element, read with the tags ts seen: ByteCount, tag of one of the ten classes, TStreamer<XXX>
+-- an element, read with the tags ts seen, its own taken as l says: ByteCount, tag of one of the ten classes, TStreamer<XXX>
 unfoldable pub elementAt : Look → List ℕ → Owner → ℕ → List ℕ → ℕ → Run
 elementAt l s o e ts p =
     headed stop (headBy l s (o .rec) p e 2 11 ts) (λ h.
