@@ -1,18 +1,18 @@
 -- Tags: what is answered, from facts, and what an answer says.
-use Prim.Native.Nat.{ℕ, _-_, _<_, _≤_}
+use Prim.Native.Nat.{ℕ, _+_, _-_, _<_, _≤_}
 use mathlib.Core.List.{List}
 use mathlib.Core.Bool.{Bool, true, false}
 use mathlib.Core.Path.{_≡_, refl, sym, _∙_}
 use mathlib.Core.Logic.{⊎-elim}
 use native.Mathlib.Omega.{arith}
-use borrow.Author.Tests.{eq-eqb, ne-eqb, le-leb, lt-leb}
+use borrow.Author.Tests.{eq-eqb, ne-eqb, eqb-true, le-leb, lt-leb, leb-false}
 use lib.Dec.{leb, eqb}
 use Rattle.wire.specs.Check.{Check, all, All, pick}
 use Rattle.wire.specs.Number.{numAt}
 use Rattle.wire.proofs.Checks.{yes-all, not-all, all-or, picked, not-picked}
 use Rattle.infofield.specs.Field.{andThen, fieldAt, countAt, counted}
 use Rattle.infofield.proofs.Steps.{each-step, each-count, from-open}
-use Rattle.infotag.specs.Tag.{firstIn, classNameAt, allowed, fresh, onName, newTag, onOffset, oldTag, tagAt, onTag, headAt, headed}
+use Rattle.infotag.specs.Tag.{firstIn, classNameAt, allowed, fresh, offsetOf, onName, newTag, beside, onOffset, oldTag, tagAt, onTag, headAt, headed}
 use Rattle.infofield.specs.declared.field.Step.{Step}
 use Rattle.infofield.specs.declared.field.Step.the-variants as step
 use Rattle.infofield.specs.declared.field.Count.{Count}
@@ -37,20 +37,20 @@ module _ (s : List ℕ) (rec p q e low high : ℕ) (ts : List ℕ) {y : Class} (
   unfolding newTag
   misnamed {c} g h = rw (sym is ∙ g) (sym (not-picked (fresh ts low high c) _ _ h))
 
-  pub named : {c r o : ℕ} → y ≡ Named c r → o ≡ p - rec → All (fresh ts low high c) → Known c o r ≡ newTag s rec p q e low high ts
+  pub named : {c r o : ℕ} → y ≡ Named c r → o ≡ offsetOf rec p → All (fresh ts low high c) → Known c o r ≡ newTag s rec p q e low high ts
   unfolding newTag
   named {c} g i h = rw (sym is ∙ g, i) (sym (picked (fresh ts low high c) _ _ h))
 
 -- a number that refers to a tag
 module _ (v p q low high : ℕ) (ts : List ℕ) where
-  pub too-low : v ≤ 2147483650 → Wrong 22 p ≡ oldTag v p q low high ts
+  pub too-low : v ≤ beside → Wrong 22 p ≡ oldTag v p q low high ts
   unfolding oldTag
-  too-low h = rw (le-leb v 2147483650 h)
+  too-low h = rw (le-leb v beside h)
 
-  module _ (o : ℕ) (l : 2147483650 < v) (i : o ≡ v - 2147483650) {y : First} (is : y ≡ firstIn ts o) where
+  module _ (o : ℕ) (l : beside < v) (i : o ≡ v - beside) {y : First} (is : y ≡ firstIn ts o) where
     found : oldTag v p q low high ts ≡ onOffset y o p q low high
     unfolding oldTag
-    found = rw (lt-leb v 2147483650 l, ← i, ← is)
+    found = rw (lt-leb v beside l, ← i, ← is)
 
     pub no-tag : y ≡ Nowhere → Wrong 22 p ≡ oldTag v p q low high ts
     no-tag g = rw (found, g)
@@ -97,38 +97,59 @@ abbrev High : ℕ → Tag → Type 0
 High high (Known c o r) = c ≤ high
 High high (Wrong c p) = Unit
 
-picked-high : (high : ℕ) (cs : List Check) (a : Tag) (p : ℕ) → (All cs → High high a) → High high (pick (all cs) a (Wrong 22 p))
-picked-high high cs a p h =
-    ⊎-elim (λ (f : All cs). rw (yes-all cs f) (h f)) (λ (f : All cs → ⊥). rw (not-all cs f) tt) (all-or cs)
+picked-tag : (P : Tag → Type 0) → ((c p : ℕ) → P (Wrong c p)) → (cs : List Check) (a : Tag) (p : ℕ) → (All cs → P a)
+    → P (pick (all cs) a (Wrong 22 p))
+picked-tag P w cs a p h =
+    ⊎-elim (λ (f : All cs). rw (yes-all cs f) (h f)) (λ (f : All cs → ⊥). rw (not-all cs f) (w 22 p)) (all-or cs)
 
-new-high : (s : List ℕ) (rec p q e low high : ℕ) (ts : List ℕ) → High high (newTag s rec p q e low high ts)
-unfolding newTag
-new-high s rec p q e low high ts = go (classNameAt s q e)
+after-field : (n p e q : ℕ) → fieldAt n p e ≡ step.Next q → q ≡ p + n
+unfolding fieldAt
+after-field n p e q = go (leb (p + n) e)
   where
-    go : (x : Class) → High high (onName x rec p low high ts)
-    go Cut = tt
-    go (Named c r) = picked-high high (fresh ts low high c) (Known c (p - rec) r) p (λ h. h .1 .0)
+    go : (b : Bool) → pick b (step.Next (p + n)) (step.Wrong 21 p) ≡ step.Next q → q ≡ p + n
+    go true i = cc
+    go false i = let z : _≡_ {A = ℕ} 0 1 = cc in absurd (omega arith)
 
-old-high : (v p q low high : ℕ) (ts : List ℕ) → High high (oldTag v p q low high ts)
-unfolding oldTag
-old-high v p q low high ts = go (leb v 2147483650)
-  where
-    at : (x : First) → High high (onOffset x (v - 2147483650) p q low high)
-    at Nowhere = tt
-    at (At c) = picked-high high (allowed low high c) (Known c (v - 2147483650) q) p (λ h. h .1 .0)
+-- what holds of a tag: of every fault, of a new tag, and of one that was followed
+module _ (s : List ℕ) (rec p e low high : ℕ) (ts : List ℕ) (P : Tag → Type 0) (w : (c r : ℕ) → P (Wrong c r)) where
+  each-new : (q : ℕ) → ((c r : ℕ) → classNameAt s q e ≡ Named c r → All (fresh ts low high c) → P (Known c (offsetOf rec p) r))
+      → P (newTag s rec p q e low high ts)
+  unfolding newTag
+  each-new q new = go (classNameAt s q e) refl
+    where
+      go : (x : Class) → classNameAt s q e ≡ x → P (onName x rec p low high ts)
+      go Cut i = w 21 p
+      go (Named c r) i = picked-tag P w (fresh ts low high c) (Known c (offsetOf rec p) r) p (new c r i)
 
-    go : (b : Bool) → High high (pick b (Wrong 22 p) (onOffset (firstIn ts (v - 2147483650)) (v - 2147483650) p q low high))
-    go true = tt
-    go false = at (firstIn ts (v - 2147483650))
+  each-old : (v q : ℕ) → ((c : ℕ) → beside < v → firstIn ts (v - beside) ≡ At c → All (allowed low high c)
+      → P (Known c (v - beside) q)) → P (oldTag v p q low high ts)
+  unfolding oldTag
+  each-old v q old = go (leb v beside) refl
+    where
+      at : beside < v → (x : First) → firstIn ts (v - beside) ≡ x → P (onOffset x (v - beside) p q low high)
+      at l Nowhere i = w 22 p
+      at l (At c) i = picked-tag P w (allowed low high c) (Known c (v - beside) q) p (old c l i)
+
+      go : (b : Bool) → leb v beside ≡ b → P (pick b (Wrong 22 p) (onOffset (firstIn ts (v - beside)) (v - beside) p q low high))
+      go true i = w 22 p
+      go false i = at (leb-false v beside i) (firstIn ts (v - beside)) refl
+
+  pub each-tag : (new : (c r : ℕ) → numAt 4 s p ≡ 4294967295 → classNameAt s (p + 4) e ≡ Named c r → All (fresh ts low high c)
+      → P (Known c (offsetOf rec p) r)) → (old : (c q : ℕ) → eqb (numAt 4 s p) 4294967295 ≡ false → beside < numAt 4 s p
+      → firstIn ts (numAt 4 s p - beside) ≡ At c → All (allowed low high c) → P (Known c (numAt 4 s p - beside) q))
+      → P (tagAt s rec p e low high ts)
+  unfolding tagAt
+  each-tag new old =
+      each-step _ _ P w (fieldAt 4 p e) (λ q i. by q (after-field 4 p e q i) (eqb (numAt 4 s p) 4294967295) refl)
+    where
+      by : (q : ℕ) → q ≡ p + 4 → (b : Bool) → eqb (numAt 4 s p) 4294967295 ≡ b
+          → P (pick b (newTag s rec p q e low high ts) (oldTag (numAt 4 s p) p q low high ts))
+      by q j true i = each-new q (λ c r h. new c r (eqb-true _ _ i) (rw j at h))
+      by q j false i = each-old (numAt 4 s p) q (λ c. old c q i)
 
 tag-high : (s : List ℕ) (rec p e low high : ℕ) (ts : List ℕ) → High high (tagAt s rec p e low high ts)
-unfolding tagAt
 tag-high s rec p e low high ts =
-    each-step _ _ (High high) (λ c r. tt) (fieldAt 4 p e) (λ q i. by q (eqb (numAt 4 s p) 4294967295))
-  where
-    by : (q : ℕ) (b : Bool) → High high (pick b (newTag s rec p q e low high ts) (oldTag (numAt 4 s p) p q low high ts))
-    by q true = new-high s rec p q e low high ts
-    by q false = old-high (numAt 4 s p) p q low high ts
+    each-tag s rec p e low high ts (High high) (λ c r. tt) (λ c r i j h. h .1 .0) (λ c q i l j h. h .1 .0)
 
 -- an object's class is at most high, and its end is at or before the innermost open end
 abbrev Bounded : ℕ → ℕ → Head → Type 0

@@ -4,7 +4,7 @@ use mathlib.Core.List.{List, [], _∷_}
 use mathlib.Core.Bool.{Bool, true, false}
 use mathlib.Core.Path.{_≡_, refl, sym, ap, _∙_}
 use native.Mathlib.Omega.{arith}
-use borrow.Author.Tests.{eq-eqb, ne-eqb, leb-false, leb-true}
+use borrow.Author.Tests.{eq-eqb, ne-eqb, eqb-true, leb-false, leb-true}
 use lib.ListN.{length, getD, take, drop, length-take, length-drop}
 use lib.Seq.{take-all}
 use lib.Dec.{leb, eqb}
@@ -29,22 +29,26 @@ first-at (x ∷ xs) v zero l e h = rw (eq-eqb x v e)
 first-at (x ∷ xs) v (suc i) l e h =
     rw (ne-eqb x v (h 0 (omega arith)), ← (first-at xs v i (omega arith) e (λ j k. h (suc j) (omega arith))))
 
--- a place that was found is one of the list's
+-- a place that was found is one of the list's, and holds the value
 at-later : (f : First) (i : ℕ) → later f ≡ At i → (j : ℕ) × (f ≡ At j) × (i ≡ suc j)
 at-later (At j) i e = (j, refl, cc)
 at-later Nowhere i e = let z : _≡_ {A = ℕ} 0 1 = cc in absurd (omega arith)
 
-first-below : (l : List ℕ) (v i : ℕ) → firstIn l v ≡ At i → i < length l
+pub first-holds : (l : List ℕ) (v i : ℕ) → firstIn l v ≡ At i → (i < length l) × (getD l i 0 ≡ v)
 unfolding firstIn
-first-below [] v i e = let z : _≡_ {A = ℕ} 0 1 = cc in absurd (omega arith)
-first-below (x ∷ xs) v i e = go (eqb x v) refl (first-below xs v)
+first-holds [] v i e = let z : _≡_ {A = ℕ} 0 1 = cc in absurd (omega arith)
+first-holds (x ∷ xs) v i e = go (eqb x v) refl (first-holds xs v)
   where
-    go : (b : Bool) → eqb x v ≡ b → ((j : ℕ) → firstIn xs v ≡ At j → j < length xs) → i < length (x ∷ xs)
-    go true f rec = let y : At 0 ≡ At i = rw f at e in let z : 0 ≡ i = cc in omega arith
-    go false f rec = let y = at-later (firstIn xs v) i (rw f at e) in omega (arith, rec (y .0) (y .1), y .2)
+    go : (b : Bool) → eqb x v ≡ b → ((j : ℕ) → firstIn xs v ≡ At j → (j < length xs) × (getD xs j 0 ≡ v))
+        → (i < length (x ∷ xs)) × (getD (x ∷ xs) i 0 ≡ v)
+    go true f rec = let y : At 0 ≡ At i = rw f at e in let z : 0 ≡ i = cc in rw (← z) (omega arith, eqb-true x v f)
+    go false f rec =
+        let y = at-later (firstIn xs v) i (rw f at e) in
+        let h = rec (y .0) (y .1) in
+        rw (y .2) (omega (arith, h .0), h .1)
 
 pub first-within : (l : List ℕ) (v : ℕ) {y : First} {i : ℕ} → y ≡ firstIn l v → y ≡ At i → i < length l
-first-within l v {y} {i} d g = first-below l v i (sym d ∙ g)
+first-within l v {y} {i} d g = first-holds l v i (sym d ∙ g) .0
 
 -- bytes before an end that lies past the file are those to the file's end
 between-least : (s : List ℕ) (q e : ℕ) (b : Bool) → leb e (length s) ≡ b → between s q (pick b e (length s)) ≡ between s q e

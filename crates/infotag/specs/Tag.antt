@@ -73,22 +73,30 @@ onZero Nowhere s q = Cut
 unfoldable pub classNameAt : List ℕ → ℕ → ℕ → Class
 classNameAt s q e = onZero (firstIn (between s q e) 0) s q
 
+-- a tag's offset from the record's start
+abbrev pub offsetOf : ℕ → ℕ → ℕ
+offsetOf rec p = p - rec
+
 -- a new tag at p, its name from q on; a name that is cut is 21
 abbrev pub onName : Class → ℕ → ℕ → ℕ → ℕ → List ℕ → Tag
-onName (Named c r) rec p low high ts = pick (all (fresh ts low high c)) (Known c (p - rec) r) (Wrong 22 p)
+onName (Named c r) rec p low high ts = pick (all (fresh ts low high c)) (Known c (offsetOf rec p) r) (Wrong 22 p)
 onName Cut rec p low high ts = Wrong 21 p
 
 unfoldable pub newTag : List ℕ → ℕ → ℕ → ℕ → ℕ → ℕ → ℕ → List ℕ → Tag
 newTag s rec p q e low high ts = onName (classNameAt s q e) rec p low high ts
 
--- "a back-reference is bit 31 plus the offset of that tag from the record's start plus 2": the number v at p refers to a tag
+-- "a back-reference is bit 31 plus the offset of that tag from the record's start plus 2": what it has beside the offset
+abbrev pub beside : ℕ
+beside = 2147483650
+
+-- the number v at p refers to a tag
 abbrev pub onOffset : First → ℕ → ℕ → ℕ → ℕ → ℕ → Tag
 onOffset (At c) o p q low high = pick (all (allowed low high c)) (Known c o q) (Wrong 22 p)
 onOffset Nowhere o p q low high = Wrong 22 p
 
 unfoldable pub oldTag : ℕ → ℕ → ℕ → ℕ → ℕ → List ℕ → Tag
 oldTag v p q low high ts =
-    pick (leb v 2147483650) (Wrong 22 p) (onOffset (firstIn ts (v - 2147483650)) (v - 2147483650) p q low high)
+    pick (leb v beside) (Wrong 22 p) (onOffset (firstIn ts (v - beside)) (v - beside) p q low high)
 
 -- "a new class tag is 0xffffffff and a name ended by zero"
 unfoldable pub tagAt : List ℕ → ℕ → ℕ → ℕ → ℕ → ℕ → List ℕ → Tag

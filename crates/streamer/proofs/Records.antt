@@ -20,6 +20,7 @@ use Rattle.key.specs.declared.piece.Piece.the-variants.{Record, Gap, Refused}
 use Rattle.key.proofs.Pieces.{from-record}
 use Rattle.key.proofs.piece.Piece.{the-type}
 use Rattle.infofield.specs.Field.{countAt}
+use Rattle.infotag.specs.Stand.{once}
 use Rattle.infofield.specs.declared.field.Count.{Count}
 use Rattle.infofield.specs.declared.field.Count.the-variants.{Open, Bad}
 use Rattle.streamer.specs.Row.{stop}
@@ -91,29 +92,29 @@ turned-not false e = sym e
 
 -- what the record gives
 module _ (s : List ℕ) (p : ℕ) {y : Piece} (is : y ≡ pieceAt s p) where
-  here : {k : Key} → y ≡ Record k → recordAt s p k ≡ infoAt s p
+  here : {k : Key} → y ≡ Record k → recordAt once s p k ≡ infoAt once s p
   unfolding infoAt
   here g = rw (sym is ∙ g)
 
-  pub other-key : {k : Key} → y ≡ Record k → {b : Bool} → b ≡ all (isInfo s k) → b ≡ false → stop 20 p ≡ infoAt s p
+  pub other-key : {k : Key} → y ≡ Record k → {b : Bool} → b ≡ all (isInfo s k) → b ≡ false → stop 20 p ≡ infoAt once s p
   unfolding recordAt
   other-key {k} g d i = sym (rw (sym d ∙ i)) ∙ here g
 
   pub packed : {k : Key} → y ≡ Record k → {b : Bool} → b ≡ all (isInfo s k) → b ≡ true → (k .objlen + k .keylen ≡ k .nbytes → ⊥)
-      → stop 19 p ≡ infoAt s p
+      → stop 19 p ≡ infoAt once s p
   unfolding recordAt
   packed {k} g d i h = sym (rw (sym d ∙ i, not-all (unpackedData k) (λ f. h (f .0)))) ∙ here g
 
   pub unpacked : {k : Key} → y ≡ Record k → {b : Bool} → b ≡ all (isInfo s k) → b ≡ true → k .objlen + k .keylen ≡ k .nbytes
-      → listAt s p (p + k .keylen) (p + k .nbytes) ≡ infoAt s p
+      → listAt once s p (p + k .keylen) (p + k .nbytes) ≡ infoAt once s p
   unfolding recordAt
   unpacked {k} g d i h = sym (rw (sym d ∙ i, yes-all (unpackedData k) (h, tt))) ∙ here g
 
-  pub no-record : (t u : List ℕ) → OneOf (1 ∷ 2 ∷ []) (tagOf the-type y) → Ended (infoAt s p) t (noRecord y p) u
+  pub no-record : (t u : List ℕ) → OneOf (1 ∷ 2 ∷ []) (tagOf the-type y) → Ended (infoAt once s p) t (noRecord y p) u
   unfolding infoAt
   no-record t u h = rw (← is) (go y h)
     where
-      go : (x : Piece) → OneOf (1 ∷ 2 ∷ []) (tagOf the-type x) → Ended (onPiece s p x) t (noRecord x p) u
+      go : (x : Piece) → OneOf (1 ∷ 2 ∷ []) (tagOf the-type x) → Ended (onPiece once s p x) t (noRecord x p) u
       go (Record k) (inl z) = absurd (omega arith)
       go (Record k) (inr z) = absurd (omega arith)
       go (Gap n) i = ended-stop t u refl

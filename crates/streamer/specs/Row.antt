@@ -3,7 +3,8 @@ use Prim.Native.Nat.{ℕ, zero, suc, _-_}
 use mathlib.Core.List.{List, [], _∷_, _++_}
 use lib.ListN.{set}
 use Rattle.infofield.specs.Field.{andThen, endedAt}
-use Rattle.infotag.specs.Tag.{headAt, headed}
+use Rattle.infotag.specs.Stand.{Look, headBy}
+use Rattle.infotag.specs.Tag.{headed}
 use Rattle.infoelement.specs.Element.{memberAt, withFields}
 use Rattle.infoelement.specs.declared.element.Fields.{Fields}
 use Rattle.streamer.specs.declared.row.Row.{Row}
@@ -53,10 +54,10 @@ rowOf o kind m = record {
   length = m .length;
 }
 
--- an element, read with the tags ts seen: ByteCount, tag of one of the ten classes, TStreamer<XXX>
-unfoldable pub elementAt : List ℕ → Owner → ℕ → List ℕ → ℕ → Run
-elementAt s o e ts p =
-    headed stop (headAt s (o .rec) p e 2 11 ts) (λ h.
+-- an element, read with the tags ts seen, its own taken as l says: ByteCount, tag of one of the ten classes, TStreamer<XXX>
+unfoldable pub elementAt : Look → List ℕ → Owner → ℕ → List ℕ → ℕ → Run
+elementAt l s o e ts p =
+    headed stop (headBy l s (o .rec) p e 2 11 ts) (λ h.
     withFields stop (memberAt s (h .class - 1) (h .next) (h .close)) (λ m.
     andThen stop (endedAt (m .next) (h .close)) (λ d.
     going (set ts (h .class) (h .offset)) (rowOf o (h .class - 1) m ∷ []) d)))

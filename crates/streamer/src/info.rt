@@ -2,6 +2,7 @@
 ghost use mathlib.Core.Path.{_≡_};
 ghost use Prim.Native.Nat.{_+_, _≤_};
 ghost use Rattle.wire.specs.Lent.{before, after};
+ghost use Rattle.infotag.specs.Stand.{once};
 ghost use Rattle.streamer.specs.Row.{times, elementAt};
 ghost use Rattle.streamer.specs.Info.{collectionAt, arrayBody, arrayAt, classBody, classAt, ownerOf};
 ghost use Rattle.streamer.specs.Info.{wholeAt, listAt, infoAt};
@@ -84,7 +85,7 @@ fn elements(
     count: u32,
 ) -> Rows
     requires { ⌜ Within (owner .rec) (o .end) rows 4294967295 ⌝ }
-    ensures { λ r. ⌜ Runs (times (λ i. elementAt (before file) owner (o .end)) (before tags) (o .at) count)
+    ensures { λ r. ⌜ Runs (times (λ i. elementAt once (before file) owner (o .end)) (before tags) (o .at) count)
         tags table rows 4294967295 r ⌝ }
 {
     let end = o.end;
@@ -126,7 +127,8 @@ fn array_body(
     n: usize,
 ) -> Rows
     requires { ⌜ Within (owner .rec) (o .end) n 4294967295 ⌝ }
-    ensures { λ r. ⌜ Runs (arrayBody (before file) owner (o .end) (before tags) (o .at)) tags table n 4294967295 r ⌝ }
+    ensures { λ r. ⌜ Runs (arrayBody once (before file) owner (o .end) (before tags) (o .at))
+        tags table n 4294967295 r ⌝ }
 {
     let at = o.at;
     let Count::Open(from, end) = open(file, at, o.end) else {
@@ -166,7 +168,8 @@ fn array(
     n: usize,
 ) -> Rows
     requires { ⌜ Within (owner .rec) (o .end) n 4294967295 ⌝ }
-    ensures { λ r. ⌜ Runs (arrayAt (before file) owner (o .end) (before tags) (o .at)) tags table n 4294967295 r ⌝ }
+    ensures { λ r. ⌜ Runs (arrayAt once (before file) owner (o .end) (before tags) (o .at))
+        tags table n 4294967295 r ⌝ }
 {
     let start = match read_head(file, owner.rec, o.at, o.end, 1, 1, &*tags) {
         Head::Known(start) => start,
@@ -192,7 +195,8 @@ fn class_body(
     n: usize,
 ) -> Rows
     requires { ⌜ Within (owner .rec) (o .end) n 4294967295 ⌝ }
-    ensures { λ r. ⌜ Runs (classBody (before file) owner (o .end) (before tags) (o .at)) tags table n 4294967295 r ⌝ }
+    ensures { λ r. ⌜ Runs (classBody once (before file) owner (o .end) (before tags) (o .at))
+        tags table n 4294967295 r ⌝ }
 {
     let body = match versioned(file, o.at, o.end) {
         Opened::Held(body) => body,
@@ -227,7 +231,8 @@ fn class(
     n: usize,
 ) -> Rows
     requires { ⌜ Within (owner .rec) (o .end) n 4294967295 ⌝ }
-    ensures { λ r. ⌜ Runs (classAt (before file) owner (o .end) (before tags) (o .at)) tags table n 4294967295 r ⌝ }
+    ensures { λ r. ⌜ Runs (classAt once (before file) owner (o .end) (before tags) (o .at))
+        tags table n 4294967295 r ⌝ }
 {
     let start = match read_head(file, owner.rec, o.at, o.end, 0, 0, &*tags) {
         Head::Known(start) => start,
@@ -253,7 +258,7 @@ fn classes(
     count: u32,
 ) -> Rows
     requires { ⌜ o .end ≤ rec + 2147483647 ⌝ }
-    ensures { λ r. ⌜ Ran (times (λ i. classAt (before file) (ownerOf rec i) (o .end)) (before tags) (o .at) count)
+    ensures { λ r. ⌜ Ran (times (λ i. classAt once (before file) (ownerOf rec i) (o .end)) (before tags) (o .at) count)
         (before table) 0 r (after tags) (after table) ⌝ }
 {
     let end = o.end;
@@ -289,7 +294,7 @@ fn open_whole(file: &[u8], at: usize, end: usize) -> Count
 // The TList of TStreamerInfo that fills the data of a record.
 fn list(file: &[u8], rec: usize, at: usize, end: usize, table: &mut [u32]) -> Rows
     requires { ⌜ end ≤ rec + 2147483647 ⌝ }
-    ensures { λ r. ⌜ Ended (listAt (before file) rec at end) (before table) r (after table) ⌝ }
+    ensures { λ r. ⌜ Ended (listAt once (before file) rec at end) (before table) r (after table) ⌝ }
 {
     let Count::Open(from, end) = open_whole(file, at, end) else {
         return Rows::Wrong(21, at);
@@ -326,7 +331,7 @@ fn no_record(piece: Piece, at: usize) -> Rows
 
 // The rows of the record at a place.
 pub(crate) fn read_record(file: &[u8], at: usize, table: &mut [u32]) -> Rows
-    ensures { λ r. ⌜ Ended (infoAt (before file) at) (before table) r (after table) ⌝ }
+    ensures { λ r. ⌜ Ended (infoAt once (before file) at) (before table) r (after table) ⌝ }
 {
     let piece = read_piece(file, at);
     let Piece::Record(k) = piece else {

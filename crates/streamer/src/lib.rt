@@ -3,10 +3,7 @@
 mod info;
 mod row;
 
-ghost use mathlib.Core.Path.{_≡_};
-ghost use lib.ListN.{length};
-ghost use Rattle.wire.specs.Lent.{before, after};
-ghost use Rattle.streamer.specs.Info.{infoAnswer, infoTable};
+ghost use Rattle.streamer.specs.Info.{Informs};
 use crate::info::read_record;
 use crate::row::Rows;
 use table::clear;
@@ -16,8 +13,7 @@ use wire::refused;
 
 // The rows of the StreamerInfo record at a place; on a refusal the table holds zeros.
 pub fn read_info(file: &[u8], at: usize, table: &mut [u32]) -> Answer
-    ensures { λ r. ⌜ (r ≡ infoAnswer (before file) at (length (before table)))
-        × (after table ≡ infoTable (before file) at (length (before table))) ⌝ }
+    ensures { λ r. ⌜ Informs file at table r ⌝ }
 {
     clear(&mut *table, 0);
     match read_record(file, at, &mut *table) {

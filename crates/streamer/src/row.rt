@@ -3,6 +3,7 @@ ghost use mathlib.Core.Path.{_≡_};
 ghost use Prim.Native.Nat.{_+_, _≤_};
 ghost use lib.ListN.{length};
 ghost use Rattle.wire.specs.Lent.{before, after};
+ghost use Rattle.infotag.specs.Stand.{once};
 ghost use Rattle.wire.specs.Patch.{patch};
 ghost use Rattle.streamer.specs.Row.{six, rowOf, elementAt};
 ghost use Rattle.streamer.specs.Runs.{putRow, Within, Runs};
@@ -92,7 +93,7 @@ pub(crate) fn element(
     n: usize,
 ) -> Rows
     requires { ⌜ Within (owner .rec) (o .end) n 1 ⌝ }
-    ensures { λ r. ⌜ Runs (elementAt (before file) owner (o .end) (before tags) (o .at)) tags table n 1 r ⌝ }
+    ensures { λ r. ⌜ Runs (elementAt once (before file) owner (o .end) (before tags) (o .at)) tags table n 1 r ⌝ }
 {
     let start = match read_head(file, owner.rec, o.at, o.end, 2, 11, &*tags) {
         Head::Known(start) => start,

@@ -1,4 +1,5 @@
 use denote.Ref.{now}
+use Rattle.streamer.proofs.Looks.{informs}
 use Rattle.streamer.proofs.Runs.{answer-rows, answer-many, answer-stop}
 use Rattle.streamer.specs.Info.{infoAnswer, infoTable}
 use mathlib.Core.Path.{_∙_}
@@ -28,14 +29,14 @@ unfolding infoAnswer infoTable
 returns c =
     let k = c .before .before .before .before .before .before .before .before .before .before .read-record .kept in
     let l = c .before .before .before .before .before .before .before .before .before .before .before .before .before .before .clear .kept in
-    answer-many _ _ _ _ (c .before .before .before .before .before .before .before .before .before .before .read-record .ensures) {k = length (c
+    informs (answer-many _ _ _ _ (c .before .before .before .before .before .before .before .before .before .before .read-record .ensures) {k = length (c
     .before .before .before .before .before .before .before .before .before .before .read-record .last .1 .1 .0)} (c .before .before .clear2
     .ensures) (omega (arith, k .1 .1 .0, l .0)) (c .before .before .before .before .before .before .-next .given .1) (omega (
       arith,
       k .1 .1 .0,
       l
           .0,
-    ))
+    )))
 
 finished-requires : tie.Need-finished-requires
 finished-requires c κs = search needs
@@ -64,7 +65,7 @@ returns-2 c =
     .before .before .args .table))) _ _ _ (c .before .before .before .before .before .before .before .read-record .ensures) (c .before .before
     .before .before .before .before .before .before .before .before .before .clear .ensures) (c .before .before .before .-next .given .1) (omega
     (arith, k .1 .1 .0, l .0)) in
-    (c .finished .ensures ∙ y .0, y .1)
+    informs (c .finished .ensures ∙ y .0, y .1)
 
 same-length-3 : tie.Need-same-length-3
 same-length-3 c = search needs
@@ -79,7 +80,7 @@ returns-3 c =
     .read-record .ensures) {k = length (c .before .before .before .before .before .before .before .before .before .before .read-record .last .1 .1
     .0)} (c .before .before .before .clear3 .ensures) (omega (arith, k .1 .1 .0, l .0)) (c .before .before .before .before .before .before .number
     .given .1) in
-    (c .refused .ensures ∙ y .0, y .1)
+    informs (c .refused .ensures ∙ y .0, y .1)
 
 pub read-info-spec : {M : Type 1} → statement M
 read-info-spec =

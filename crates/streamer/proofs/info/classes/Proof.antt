@@ -1,3 +1,4 @@
+use Rattle.infotag.specs.Stand.{once}
 use Rattle.streamer.proofs.Runs.{Reading, read-began, read-more, read-ended, read-stopped, grown-by}
 use Rattle.streamer.specs.Info.{classAt, ownerOf}
 use native.Mathlib.Omega.{arith}
@@ -8,7 +9,7 @@ use Rattle.streamer.proofs.info.classes.Tie as tie
 
 abbrev Inv-loop : tie.InvT-loop
 Inv-loop file rec tags₀ table₀ count end at₀ n₀ i₀ tags table at n i =
-    Reading (λ (j : ℕ). classAt file (ownerOf rec j) end) tags₀ at₀ table₀ 0 i tags at table n × ((i ≤ count) × (n ≤ i * 4294967295))
+    Reading (λ (j : ℕ). classAt once file (ownerOf rec j) end) tags₀ at₀ table₀ 0 i tags at table n × ((i ≤ count) × (n ≤ i * 4294967295))
 
 abbrev μ-loop : tie.MeasureT-loop
 μ-loop file rec tags₀ table₀ count end at₀ n₀ i₀ tags table at n i = count - i

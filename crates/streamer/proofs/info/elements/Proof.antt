@@ -1,3 +1,4 @@
+use Rattle.infotag.specs.Stand.{once}
 use Rattle.streamer.proofs.Runs.{Reading, read-began, read-more, read-ended, read-stopped, grown-by, is-grown, wrong-grown}
 use Rattle.streamer.specs.Row.{elementAt}
 use native.Mathlib.Omega.{arith}
@@ -8,7 +9,7 @@ use Rattle.streamer.proofs.info.elements.Tie as tie
 
 abbrev Inv-loop : tie.InvT-loop
 Inv-loop file owner tags₀ table₀ rows count end at₀ n₀ i₀ tags table at n i =
-    Reading (λ (j : ℕ). elementAt file owner end) tags₀ at₀ table₀ rows i tags at table n × ((i ≤ count) × (n ≤ rows + i))
+    Reading (λ (j : ℕ). elementAt once file owner end) tags₀ at₀ table₀ rows i tags at table n × ((i ≤ count) × (n ≤ rows + i))
 
 abbrev μ-loop : tie.MeasureT-loop
 μ-loop file owner tags₀ table₀ rows count end at₀ n₀ i₀ tags table at n i = count - i
