@@ -1,11 +1,10 @@
 // The C interface: thin functions over the proved crates, with the same promises. A slice is passed as a
 // pointer and a length. The number is returned; place and count are written in every case.
 ghost use mathlib.Core.Path.{_≡_};
-ghost use lib.ListN.{length};
 ghost use Rattle.wire.specs.Lent.{before, after};
 ghost use Rattle.date.specs.Date.{Packs};
 ghost use Rattle.key.specs.Writer.{Writes};
-ghost use Rattle.streamer.specs.Info.{infoAnswer, infoTable};
+ghost use Rattle.streamer.specs.Info.{Informs};
 ghost use Rattle.audit.specs.Tables.{Audits};
 ghost use Rattle.capi.specs.Told.{told, dateOf, Unpacked, fieldsOf, storedCycle, recordList, Shows};
 use date::Date;
@@ -164,8 +163,7 @@ pub extern "C" fn rootmap_info(
     place: &mut u64,
     count: &mut u64,
 ) -> u64
-    ensures { λ r. ⌜ (told r place count ≡ infoAnswer (before file) at (length (before table)))
-        × (after table ≡ infoTable (before file) at (length (before table))) ⌝ }
+    ensures { λ r. ⌜ Informs file at table (told r place count) ⌝ }
 {
     let i = streamer::read_info(file, at as usize, table);
     *place = i.place;

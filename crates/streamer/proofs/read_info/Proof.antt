@@ -15,14 +15,8 @@ clear-requires c κs = search needs
 read-record-requires : tie.Need-read-record-requires
 read-record-requires c κs = search needs
 
-enum-known--next : tie.Need-enum-known--next
-enum-known--next c = search needs
-
 clear-requires-2 : tie.Need-clear-requires-2
 clear-requires-2 c κs = search needs
-
-same-length : tie.Need-same-length
-same-length c = search needs
 
 returns : tie.Need-returns
 unfolding infoAnswer infoTable
@@ -41,20 +35,11 @@ returns c =
 finished-requires : tie.Need-finished-requires
 finished-requires c κs = search needs
 
-enum-known-number : tie.Need-enum-known-number
-enum-known-number c = search needs
-
 clear-requires-3 : tie.Need-clear-requires-3
 clear-requires-3 c κs = search needs
 
-cast-refused : tie.Need-cast-refused
-cast-refused c = search needs
-
 refused-requires : tie.Need-refused-requires
 refused-requires c κs = search needs
-
-same-length-2 : tie.Need-same-length-2
-same-length-2 c = search needs
 
 returns-2 : tie.Need-returns-2
 unfolding infoAnswer infoTable
@@ -66,9 +51,6 @@ returns-2 c =
     .before .before .before .before .before .before .before .before .before .clear .ensures) (c .before .before .before .-next .given .1) (omega
     (arith, k .1 .1 .0, l .0)) in
     informs (c .finished .ensures ∙ y .0, y .1)
-
-same-length-3 : tie.Need-same-length-3
-same-length-3 c = search needs
 
 returns-3 : tie.Need-returns-3
 unfolding infoAnswer infoTable
@@ -86,18 +68,5 @@ pub read-info-spec : {M : Type 1} → statement M
 read-info-spec =
     tie.close
     (tie.spec
-    clear-requires
-    read-record-requires
-    enum-known--next
-    clear-requires-2
-    same-length
-    returns
-    finished-requires
-    enum-known-number
-    clear-requires-3
-    cast-refused
-    refused-requires
-    same-length-2
-    returns-2
-    same-length-3
-    returns-3)
+    clear-requires read-record-requires (search needs) clear-requires-2 (search needs) returns finished-requires (search needs)
+    clear-requires-3 (search needs) refused-requires (search needs) returns-2 (search needs) returns-3)

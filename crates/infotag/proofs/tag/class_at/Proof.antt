@@ -5,14 +5,8 @@ use borrow.Author.Needs.{needs}
 use Rattle.infotag.proofs.tag.class_at.Statement.{statement}
 use Rattle.infotag.proofs.tag.class_at.Tie as tie
 
-least-requires : tie.Need-least-requires
-least-requires c κs = search needs
-
 returns : tie.Need-returns
 returns c = nothing-there _ _ _ (c .before .least .ensures) (c .if1 .taken)
-
-part-first-zero-start : tie.Need-part-first-zero-start
-part-first-zero-start c = search needs
 
 part-first-zero-end : tie.Need-part-first-zero-end
 part-first-zero-end c =
@@ -21,12 +15,6 @@ part-first-zero-end c =
       least-within (now (c .before .before .before .args .file)) (c .before .before .before .args .from) (c .before .before .before .args
           .end) (c .before .least .ensures),
     )
-
-first-zero-requires : tie.Need-first-zero-requires
-first-zero-requires c κs = search needs
-
-enum-known-n : tie.Need-enum-known-n
-enum-known-n c = search needs
 
 enum-told : tie.Need-enum-told
 enum-told c = search needs
@@ -43,12 +31,6 @@ add-last c =
           .ensures) (c .before .n .given .1),
     )
 
-sub-class-of : tie.Need-sub-class-of
-sub-class-of c = search needs
-
-part-class-of-start : tie.Need-part-class-of-start
-part-class-of-start c = search needs
-
 part-class-of-end : tie.Need-part-class-of-end
 part-class-of-end c =
     omega (
@@ -56,9 +38,6 @@ part-class-of-end c =
       zero-within _ _ _ (c .before .before .before .before .before .before .least .ensures) (c .before .before .before .first-zero
           .ensures) (c .before .n .given .1),
     )
-
-class-of-requires : tie.Need-class-of-requires
-class-of-requires c κs = search needs
 
 add-t17 : tie.Need-add-t17
 add-t17 c =
@@ -77,18 +56,5 @@ pub class-at-spec : {M : Type 1} → statement M
 class-at-spec =
     tie.close
     (tie.spec
-    least-requires
-    returns
-    part-first-zero-start
-    part-first-zero-end
-    first-zero-requires
-    enum-known-n
-    enum-told
-    returns-2
-    add-last
-    sub-class-of
-    part-class-of-start
-    part-class-of-end
-    class-of-requires
-    add-t17
-    returns-3)
+    (search needs) returns (search needs) part-first-zero-end (search needs) (search needs) enum-told returns-2 add-last
+    (search needs) (search needs) part-class-of-end (search needs) add-t17 returns-3)

@@ -4,12 +4,6 @@ use borrow.Author.Needs.{needs}
 use Rattle.infotag.proofs.tag.new_tag.Statement.{statement}
 use Rattle.infotag.proofs.tag.new_tag.Tie as tie
 
-class-at-requires : tie.Need-class-at-requires
-class-at-requires c κs = search needs
-
-enum-known-class : tie.Need-enum-known-class
-enum-known-class c = search needs
-
 enum-told : tie.Need-enum-told
 enum-told c = search needs
 
@@ -25,16 +19,10 @@ returns-3 c =
     misnamed _ _ _ _ _ _ _ _ (c .before .before .before .before .before .class-at .ensures) (c .before .before .before .class .given .1) (λ h. omega
     (arith, h))
 
-seen-requires : tie.Need-seen-requires
-seen-requires c κs = search needs
-
 returns-4 : tie.Need-returns-4
 returns-4 c =
     misnamed _ _ _ _ _ _ _ _ (c .before .before .before .before .before .before .before .class-at .ensures) (c .before .before .before .before
     .before .class .given .1) (λ h. omega (arith, h, c .before .seen .ensures))
-
-offset-requires : tie.Need-offset-requires
-offset-requires c κs = search needs
 
 returns-5 : tie.Need-returns-5
 returns-5 c =
@@ -45,13 +33,4 @@ pub new-tag-spec : {M : Type 1} → statement M
 new-tag-spec =
     tie.close
     (tie.spec
-    class-at-requires
-    enum-known-class
-    enum-told
-    returns
-    returns-2
-    returns-3
-    seen-requires
-    returns-4
-    offset-requires
-    returns-5)
+    (search needs) (search needs) enum-told returns returns-2 returns-3 (search needs) returns-4 (search needs) returns-5)

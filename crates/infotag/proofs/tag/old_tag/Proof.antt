@@ -7,18 +7,6 @@ use Rattle.infotag.proofs.tag.old_tag.Tie as tie
 returns : tie.Need-returns
 returns c = too-low _ _ _ _ _ _ (c .if1 .taken)
 
-sub-there : tie.Need-sub-there
-sub-there c = search needs
-
-cast-there : tie.Need-cast-there
-cast-there c = search needs
-
-first-offset-requires : tie.Need-first-offset-requires
-first-offset-requires c κs = search needs
-
-enum-known-class : tie.Need-enum-known-class
-enum-known-class c = search needs
-
 enum-told : tie.Need-enum-told
 enum-told c = search needs
 
@@ -44,13 +32,4 @@ pub old-tag-spec : {M : Type 1} → statement M
 old-tag-spec =
     tie.close
     (tie.spec
-    returns
-    sub-there
-    cast-there
-    first-offset-requires
-    enum-known-class
-    enum-told
-    returns-2
-    returns-3
-    returns-4
-    returns-5)
+    returns (search needs) (search needs) (search needs) (search needs) enum-told returns-2 returns-3 returns-4 returns-5)

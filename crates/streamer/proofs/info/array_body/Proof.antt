@@ -11,9 +11,6 @@ use Rattle.streamer.proofs.info.array_body.Tie as tie
 open-requires : tie.Need-open-requires
 open-requires c κs = search needs
 
-enum-known-from : tie.Need-enum-known-from
-enum-known-from c = search needs
-
 enum-told : tie.Need-enum-told
 enum-told c = search needs
 
@@ -23,12 +20,6 @@ returns c = (ran-stop _ _ _ _ (opens-not _ _ _ (c .before .before .«open» .ens
 
 read-collection-requires : tie.Need-read-collection-requires
 read-collection-requires c κs = search needs
-
-enum-known-size : tie.Need-enum-known-size
-enum-known-size c = search needs
-
-enum-known-number : tie.Need-enum-known-number
-enum-known-number c = search needs
 
 returns-2 : tie.Need-returns-2
 unfolding arrayBody
@@ -41,12 +32,6 @@ returns-2 c = (
 
 zero-requires : tie.Need-zero-requires
 zero-requires c κs = search needs
-
-enum-known-next : tie.Need-enum-known-next
-enum-known-next c = search needs
-
-enum-known-number-2 : tie.Need-enum-known-number-2
-enum-known-number-2 c = search needs
 
 returns-3 : tie.Need-returns-3
 unfolding arrayBody
@@ -72,9 +57,6 @@ elements-requires c κs =
 close-at-requires : tie.Need-close-at-requires
 close-at-requires c κs = search needs
 
-same-length : tie.Need-same-length
-same-length c = search needs
-
 returns-4 : tie.Need-returns-4
 unfolding arrayBody
 returns-4 c = (
@@ -92,19 +74,5 @@ pub array-body-spec : {M : Type 1} → statement M
 array-body-spec =
     tie.close
     (tie.spec
-    open-requires
-    enum-known-from
-    enum-told
-    returns
-    read-collection-requires
-    enum-known-size
-    enum-known-number
-    returns-2
-    zero-requires
-    enum-known-next
-    enum-known-number-2
-    returns-3
-    elements-requires
-    close-at-requires
-    same-length
-    returns-4)
+    open-requires (search needs) enum-told returns read-collection-requires (search needs) (search needs) returns-2 zero-requires
+    (search needs) (search needs) returns-3 elements-requires close-at-requires (search needs) returns-4)

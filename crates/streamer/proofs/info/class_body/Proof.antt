@@ -11,24 +11,12 @@ use Rattle.streamer.proofs.info.class_body.Tie as tie
 versioned-requires : tie.Need-versioned-requires
 versioned-requires c κs = search needs
 
-enum-known-body : tie.Need-enum-known-body
-enum-known-body c = search needs
-
-enum-known-number : tie.Need-enum-known-number
-enum-known-number c = search needs
-
 returns : tie.Need-returns
 unfolding classBody
 returns c = (ran-stop _ _ _ _ (halt-opened _ _ (c .before .before .before .versioned .ensures) (c .before .number .given .1)), not-grown _ _ _ _)
 
 read-named-requires : tie.Need-read-named-requires
 read-named-requires c κs = search needs
-
-enum-known-name : tie.Need-enum-known-name
-enum-known-name c = search needs
-
-enum-known-number-2 : tie.Need-enum-known-number-2
-enum-known-number-2 c = search needs
 
 returns-2 : tie.Need-returns-2
 unfolding classBody
@@ -41,12 +29,6 @@ returns-2 c = (
 
 numbers-requires : tie.Need-numbers-requires
 numbers-requires c κs = search needs
-
-enum-known-next : tie.Need-enum-known-next
-enum-known-next c = search needs
-
-enum-known-number-3 : tie.Need-enum-known-number-3
-enum-known-number-3 c = search needs
 
 returns-3 : tie.Need-returns-3
 unfolding classBody
@@ -72,9 +54,6 @@ array-requires c κs =
 close-at-requires : tie.Need-close-at-requires
 close-at-requires c κs = search needs
 
-same-length : tie.Need-same-length
-same-length c = search needs
-
 returns-4 : tie.Need-returns-4
 unfolding classBody
 returns-4 c = (
@@ -92,19 +71,5 @@ pub class-body-spec : {M : Type 1} → statement M
 class-body-spec =
     tie.close
     (tie.spec
-    versioned-requires
-    enum-known-body
-    enum-known-number
-    returns
-    read-named-requires
-    enum-known-name
-    enum-known-number-2
-    returns-2
-    numbers-requires
-    enum-known-next
-    enum-known-number-3
-    returns-3
-    array-requires
-    close-at-requires
-    same-length
-    returns-4)
+    versioned-requires (search needs) (search needs) returns read-named-requires (search needs) (search needs) returns-2
+    numbers-requires (search needs) (search needs) returns-3 array-requires close-at-requires (search needs) returns-4)

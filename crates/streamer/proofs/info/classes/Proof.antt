@@ -27,25 +27,13 @@ class-requires c κs =
           .before .before .fits,
     )
 
-enum-known-r : tie.Need-enum-known-r Inv-loop μ-loop
-enum-known-r c = search needs
-
 enum-told : tie.Need-enum-told Inv-loop μ-loop
 enum-told c = search needs
-
-same-length : tie.Need-same-length Inv-loop μ-loop
-same-length c = search needs
 
 returns : tie.Need-returns Inv-loop μ-loop
 returns c =
     read-stopped (c .before .before .before .before .before .before .before .before .loop .inv .0) _ _ _ _ (omega arith) (c .before .before .before
     .before .class .ensures .0) (c .enum-told .given .1)
-
-add-i : tie.Need-add-i Inv-loop μ-loop
-add-i c = search needs
-
-loop-less : tie.Need-loop-less Inv-loop μ-loop
-loop-less c = search needs
 
 loop-again : tie.Need-loop-again Inv-loop μ-loop
 loop-again c =
@@ -73,16 +61,5 @@ pub classes-spec : {M : Type 1} → statement M
 classes-spec =
     tie.close
     (tie.spec
-    Inv-loop
-    μ-loop
-    loop-holds
-    class-requires
-    enum-known-r
-    enum-told
-    same-length
-    returns
-    add-i
-    loop-less
-    loop-again
-    same-length-2
-    returns-2)
+    Inv-loop μ-loop loop-holds class-requires (search needs) enum-told (search needs) returns (search needs) (search needs)
+    loop-again same-length-2 returns-2)

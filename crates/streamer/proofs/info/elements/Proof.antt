@@ -20,14 +20,8 @@ loop-holds c = (read-began _ _ _ _ _, (omega arith, omega arith))
 element-requires : tie.Need-element-requires Inv-loop μ-loop
 element-requires c κs = omega (arith, c .before .before .before .loop .inv .1, c .before .before .before .before .before .before .pre)
 
-enum-known-r : tie.Need-enum-known-r Inv-loop μ-loop
-enum-known-r c = search needs
-
 enum-told : tie.Need-enum-told Inv-loop μ-loop
 enum-told c = search needs
-
-same-length : tie.Need-same-length Inv-loop μ-loop
-same-length c = search needs
 
 returns : tie.Need-returns Inv-loop μ-loop
 returns c = (
@@ -35,12 +29,6 @@ returns c = (
       .before .element .ensures .0) (c .enum-told .given .1),
   wrong-grown _ _ (c .enum-told .given .1),
 )
-
-add-i : tie.Need-add-i Inv-loop μ-loop
-add-i c = search needs
-
-loop-less : tie.Need-loop-less Inv-loop μ-loop
-loop-less c = search needs
 
 loop-again : tie.Need-loop-again Inv-loop μ-loop
 loop-again c =
@@ -68,16 +56,5 @@ pub elements-spec : {M : Type 1} → statement M
 elements-spec =
     tie.close
     (tie.spec
-    Inv-loop
-    μ-loop
-    loop-holds
-    element-requires
-    enum-known-r
-    enum-told
-    same-length
-    returns
-    add-i
-    loop-less
-    loop-again
-    same-length-2
-    returns-2)
+    Inv-loop μ-loop loop-holds element-requires (search needs) enum-told (search needs) returns (search needs) (search needs)
+    loop-again same-length-2 returns-2)

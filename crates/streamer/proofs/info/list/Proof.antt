@@ -11,9 +11,6 @@ use Rattle.streamer.proofs.info.list.Tie as tie
 open-whole-requires : tie.Need-open-whole-requires
 open-whole-requires c κs = search needs
 
-enum-known-from : tie.Need-enum-known-from
-enum-known-from c = search needs
-
 enum-told : tie.Need-enum-told
 enum-told c = search needs
 
@@ -23,12 +20,6 @@ returns c = ended-stop _ _ (opens-not _ _ _ (c .before .before .open-whole .ensu
 
 read-collection-requires : tie.Need-read-collection-requires
 read-collection-requires c κs = search needs
-
-enum-known-size : tie.Need-enum-known-size
-enum-known-size c = search needs
-
-enum-known-number : tie.Need-enum-known-number
-enum-known-number c = search needs
 
 returns-2 : tie.Need-returns-2
 unfolding listAt
@@ -45,9 +36,6 @@ classes-requires c κs =
 close-at-requires : tie.Need-close-at-requires
 close-at-requires c κs = search needs
 
-same-length : tie.Need-same-length
-same-length c = search needs
-
 returns-3 : tie.Need-returns-3
 unfolding listAt
 returns-3 c =
@@ -61,15 +49,5 @@ pub list-spec : {M : Type 1} → statement M
 list-spec =
     tie.close
     (tie.spec
-    open-whole-requires
-    enum-known-from
-    enum-told
-    returns
-    read-collection-requires
-    enum-known-size
-    enum-known-number
-    returns-2
-    classes-requires
-    close-at-requires
-    same-length
-    returns-3)
+    open-whole-requires (search needs) enum-told returns read-collection-requires (search needs) (search needs) returns-2
+    classes-requires close-at-requires (search needs) returns-3)

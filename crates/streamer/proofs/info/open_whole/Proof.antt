@@ -7,9 +7,6 @@ use Rattle.streamer.proofs.info.open_whole.Tie as tie
 open-requires : tie.Need-open-requires
 open-requires c κs = search needs
 
-enum-known-from : tie.Need-enum-known-from
-enum-known-from c = search needs
-
 enum-told : tie.Need-enum-told
 enum-told c = search needs
 
@@ -23,5 +20,4 @@ returns-3 : tie.Need-returns-3
 returns-3 c = whole-is _ _ _ (c .before .before .before .before .«open» .ensures) (c .before .before .from .given .1) (omega arith)
 
 pub open-whole-spec : {M : Type 1} → statement M
-open-whole-spec =
-    tie.close (tie.spec open-requires enum-known-from enum-told returns returns-2 returns-3)
+open-whole-spec = tie.close (tie.spec open-requires (search needs) enum-told returns returns-2 returns-3)

@@ -7,24 +7,12 @@ use Rattle.streamer.proofs.info.read_collection.Tie as tie
 field-requires : tie.Need-field-requires
 field-requires c κs = search needs
 
-enum-known-next : tie.Need-enum-known-next
-enum-known-next c = search needs
-
-enum-known-number : tie.Need-enum-known-number
-enum-known-number c = search needs
-
 returns : tie.Need-returns
 unfolding collectionAt
 returns c = halt _ _ (c .before .before .before .field .ensures) (c .before .number .given .1)
 
 object-requires : tie.Need-object-requires
 object-requires c κs = search needs
-
-enum-known-next-2 : tie.Need-enum-known-next-2
-enum-known-next-2 c = search needs
-
-enum-known-number-2 : tie.Need-enum-known-number-2
-enum-known-number-2 c = search needs
 
 returns-2 : tie.Need-returns-2
 unfolding collectionAt
@@ -34,12 +22,6 @@ returns-2 c =
 
 unnamed-requires : tie.Need-unnamed-requires
 unnamed-requires c κs = search needs
-
-enum-known-next-3 : tie.Need-enum-known-next-3
-enum-known-next-3 c = search needs
-
-enum-known-number-3 : tie.Need-enum-known-number-3
-enum-known-number-3 c = search needs
 
 returns-3 : tie.Need-returns-3
 unfolding collectionAt
@@ -52,14 +34,8 @@ returns-3 c =
 field-requires-2 : tie.Need-field-requires-2
 field-requires-2 c κs = search needs
 
-enum-known-next-4 : tie.Need-enum-known-next-4
-enum-known-next-4 c = search needs
-
 be32-requires : tie.Need-be32-requires
 be32-requires c κs = search needs
-
-enum-known-number-4 : tie.Need-enum-known-number-4
-enum-known-number-4 c = search needs
 
 returns-4 : tie.Need-returns-4
 unfolding collectionAt
@@ -86,21 +62,5 @@ pub read-collection-spec : {M : Type 1} → statement M
 read-collection-spec =
     tie.close
     (tie.spec
-    field-requires
-    enum-known-next
-    enum-known-number
-    returns
-    object-requires
-    enum-known-next-2
-    enum-known-number-2
-    returns-2
-    unnamed-requires
-    enum-known-next-3
-    enum-known-number-3
-    returns-3
-    field-requires-2
-    enum-known-next-4
-    be32-requires
-    enum-known-number-4
-    returns-4
-    returns-5)
+    field-requires (search needs) (search needs) returns object-requires (search needs) (search needs) returns-2 unnamed-requires
+    (search needs) (search needs) returns-3 field-requires-2 (search needs) be32-requires (search needs) returns-4 returns-5)

@@ -8,9 +8,6 @@ use Rattle.streamer.proofs.info.read_record.Tie as tie
 read-piece-requires : tie.Need-read-piece-requires
 read-piece-requires c κs = search needs
 
-enum-known-piece : tie.Need-enum-known-piece
-enum-known-piece c = search needs
-
 no-record-requires : tie.Need-no-record-requires
 no-record-requires c κs = search needs
 
@@ -37,17 +34,11 @@ returns-3 c =
     ended-stop _ _ (packed _ _ (c .before .before .before .before .before .before .read-piece .ensures .piece) (c .before .before .before .before .piece
     .given .1) (c .before .before .is-info-key .ensures) (turned-not _ (c .before .if1 .left)) (λ h. omega (arith, f .key, h)))
 
-cast-list : tie.Need-cast-list
-cast-list c = search needs
-
 add-list : tie.Need-add-list
 add-list c =
     let f = found _ _ (c .before .before .before .before .before .before .read-piece .ensures .piece) (c .before .before .before .before .piece .given
     .1) in
     omega (arith, f .small, f .key, f .fits)
-
-cast-list-2 : tie.Need-cast-list-2
-cast-list-2 c = search needs
 
 add-list-2 : tie.Need-add-list-2
 add-list-2 c =
@@ -61,9 +52,6 @@ list-requires c κs =
     .piece .given .1) in
     omega (arith, f .small, f .key, f .fits)
 
-same-length : tie.Need-same-length
-same-length c = search needs
-
 returns-4 : tie.Need-returns-4
 returns-4 c =
     let f = found _ _ (c .before .before .before .before .before .before .before .before .before .before .read-piece .ensures .piece) (c .before .before
@@ -76,18 +64,5 @@ pub read-record-spec : {M : Type 1} → statement M
 read-record-spec =
     tie.close
     (tie.spec
-    read-piece-requires
-    enum-known-piece
-    no-record-requires
-    returns
-    is-info-key-requires
-    returns-2
-    sub-if2
-    returns-3
-    cast-list
-    add-list
-    cast-list-2
-    add-list-2
-    list-requires
-    same-length
-    returns-4)
+    read-piece-requires (search needs) no-record-requires returns is-info-key-requires returns-2 sub-if2 returns-3 (search needs)
+    add-list (search needs) add-list-2 list-requires (search needs) returns-4)

@@ -12,12 +12,6 @@ use Rattle.streamer.proofs.row.element.Tie as tie
 read-head-requires : tie.Need-read-head-requires
 read-head-requires c κs = search needs
 
-enum-known-start : tie.Need-enum-known-start
-enum-known-start c = search needs
-
-enum-known-number : tie.Need-enum-known-number
-enum-known-number c = search needs
-
 returns : tie.Need-returns
 unfolding elementAt
 returns c = (ran-stop _ _ _ _ (halt-head _ _ (c .before .before .before .read-head .ensures) (c .before .number .given .1)), not-grown _ _ _ _)
@@ -27,12 +21,6 @@ offset-requires c κs = search needs
 
 read-member-requires : tie.Need-read-member-requires
 read-member-requires c κs = search needs
-
-enum-known-m : tie.Need-enum-known-m
-enum-known-m c = search needs
-
-enum-known-number-2 : tie.Need-enum-known-number-2
-enum-known-number-2 c = search needs
 
 returns-2 : tie.Need-returns-2
 unfolding elementAt
@@ -45,12 +33,6 @@ returns-2 c = (
 
 ended-requires : tie.Need-ended-requires
 ended-requires c κs = search needs
-
-enum-known-next : tie.Need-enum-known-next
-enum-known-next c = search needs
-
-enum-known-number-3 : tie.Need-enum-known-number-3
-enum-known-number-3 c = search needs
 
 returns-3 : tie.Need-returns-3
 unfolding elementAt
@@ -106,9 +88,6 @@ add-t30 c =
           .before .before .before .before .before .before .pre,
     )
 
-same-length : tie.Need-same-length
-same-length c = search needs
-
 returns-4 : tie.Need-returns-4
 unfolding elementAt
 returns-4 c = (
@@ -128,24 +107,6 @@ pub element-spec : {M : Type 1} → statement M
 element-spec =
     tie.close
     (tie.spec
-    read-head-requires
-    enum-known-start
-    enum-known-number
-    returns
-    offset-requires
-    read-member-requires
-    enum-known-m
-    enum-known-number-2
-    returns-2
-    ended-requires
-    enum-known-next
-    enum-known-number-3
-    returns-3
-    mul-tags
-    element-write-tags
-    cast-row-of
-    row-of-requires
-    put-row-requires
-    add-t30
-    same-length
-    returns-4)
+    read-head-requires (search needs) (search needs) returns offset-requires read-member-requires (search needs) (search needs)
+    returns-2 ended-requires (search needs) (search needs) returns-3 mul-tags element-write-tags cast-row-of row-of-requires
+    put-row-requires add-t30 (search needs) returns-4)

@@ -7,9 +7,6 @@ use borrow.Author.Needs.{needs}
 use Rattle.streamer.proofs.row.put_six.Statement.{statement}
 use Rattle.streamer.proofs.row.put_six.Tie as tie
 
-slice-write-part : tie.Need-slice-write-part
-slice-write-part c = search needs
-
 slice-write-part-2 : tie.Need-slice-write-part-2
 slice-write-part-2 c = simp length-set (omega arith)
 
@@ -25,9 +22,6 @@ slice-write-part-5 c = simp length-set (omega arith)
 slice-write-part-6 : tie.Need-slice-write-part-6
 slice-write-part-6 c = simp length-set (omega arith)
 
-same-length : tie.Need-same-length
-same-length c = search needs
-
 returns : tie.Need-returns
 returns c = stored (six (c .args .row)) (now (c .args .part)) (omega arith)
 
@@ -35,11 +29,5 @@ pub put-six-spec : {M : Type 1} → statement M
 put-six-spec =
     tie.close
     (tie.spec
-    slice-write-part
-    slice-write-part-2
-    slice-write-part-3
-    slice-write-part-4
-    slice-write-part-5
-    slice-write-part-6
-    same-length
+    (search needs) slice-write-part-2 slice-write-part-3 slice-write-part-4 slice-write-part-5 slice-write-part-6 (search needs)
     returns)
