@@ -1,15 +1,15 @@
 -- A directory's keys list, its turn, and the directories one after the other.
-use Prim.Native.Nat.{ℕ, suc, _+_, _-_, _<_, _≤_}
+use Prim.Native.Nat.{ℕ, zero, suc, _+_, _-_, _<_, _≤_}
 use mathlib.Core.Bool.{Bool, true, false}
-use mathlib.Core.List.{List}
+use mathlib.Core.List.{List, [], _∷_}
 use mathlib.Core.Logic.{⊎-elim}
 use mathlib.Core.Path.{_≡_, refl, sym, ap, _∙_}
-use native.Mathlib.Nat.{eq-or-lt-of-le}
+use native.Mathlib.Nat.{eq-or-lt-of-le, zero-add, suc-add}
 use native.Mathlib.Omega.{arith}
 use borrow.Author.Tests.{eq-eqb, ne-eqb, eqb-true, eqb-false, le-leb, lt-leb}
 use lib.Dec.{eqb}
-use lib.ListN.{length, getD, set, length-set}
-use lib.Seq.{getD-set-same, getD-set-other}
+use lib.ListN.{length, getD, set, take, drop, length-set, length-drop}
+use lib.Seq.{getD-set-same, getD-set-other, take-all}
 use Rattle.wire.specs.Number.{numAt}
 use Rattle.wire.proofs.Checks.{yes-all, not-all, below-or}
 use Rattle.directory.specs.Dir.{headIn, subIn, dirOf, noKeys}
@@ -179,6 +179,22 @@ first-left ps i d l h = sym (next-row-at ps i l h (d .1))
 
 pub none-left : (ps : List ℕ) (i : ℕ) → Done ps i → length ps ≤ i → i ≡ nextRow ps
 none-left ps i d l = let e : i ≡ length ps = omega (arith, d .0) in e ∙ sym (next-row-none ps (λ j k. d .1 j (omega arith)))
+
+-- looked for from a row on
+pub next-drop : (ps : List ℕ) (from : ℕ) → Done ps from → from + nextRow (drop from ps) ≡ nextRow ps
+unfolding nextRow
+next-drop ps zero d = zero-add _
+next-drop [] (suc f) d = absurd (omega (arith, d .0))
+next-drop (k ∷ ps) (suc f) d =
+    rw (lt-leb 8 k (d .1 0 (omega arith)), ← (next-drop ps f (omega (arith, d .0), λ i l. d .1 (suc i) (omega arith))))
+    (suc-add f (nextRow (drop f ps)))
+
+pub next-part : (ps : List ℕ) (from : ℕ) {r : ℕ} → Done ps from → r ≡ nextRow (take (length ps - from) (drop from ps))
+    → (from + r ≡ nextRow ps) × (from + r ≤ length ps)
+next-part ps from {r} d e =
+    let a = take-all (length ps - from) (drop from ps) (rw length-drop (omega arith)) in
+    let n : from + r ≡ nextRow ps = ap (λ (k : ℕ). from + k) (e ∙ ap nextRow a) ∙ next-drop ps from d in
+    (n, omega (arith, n, next-row ps .within))
 
 -- a directory that is done
 module _ (s : List ℕ) (h : FileHead) (qs : List ℕ) (row : ℕ) (ps os : List ℕ) (r : Listed) (us vs : List ℕ)

@@ -69,12 +69,11 @@ fn take_dir(
     Listed::Next(at, low)
 }
 
-// The lowest row, from a row on, of a directory that was found and is not done.
-fn next_row(part: &[u32], from: usize) -> usize
-    requires { ⌜ Done (now part) from ⌝ }
+// The first row of a directory that was found and is not done.
+fn first_row(part: &[u32]) -> usize
     ensures { λ r. ⌜ r ≡ nextRow (before part) ⌝ }
 {
-    let mut i = from;
+    let mut i: usize = 0;
     while i < part.len() {
         if 8 <= part[i] {
             return i;
@@ -82,6 +81,14 @@ fn next_row(part: &[u32], from: usize) -> usize
         i += 1;
     }
     i
+}
+
+// The same, looked for from a row on.
+fn next_row(part: &[u32], from: usize) -> usize
+    requires { ⌜ Done (now part) from ⌝ }
+    ensures { λ r. ⌜ r ≡ nextRow (before part) ⌝ }
+{
+    from + first_row(&part[from..])
 }
 
 // All directories.

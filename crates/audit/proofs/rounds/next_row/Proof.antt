@@ -1,33 +1,18 @@
-use Prim.Native.Nat.{_-_}
-use denote.Ref.{now}
-use lib.ListN.{length}
-use Rattle.audit.specs.Listing.{Done}
-use Rattle.audit.proofs.Turns.{done-more, first-left, none-left}
 use native.Mathlib.Omega.{arith}
+use denote.Ref.{now}
+use Rattle.audit.proofs.Turns.{next-part}
 use borrow.Author.Needs.{needs}
 use Rattle.audit.proofs.rounds.next_row.Statement.{statement}
 use Rattle.audit.proofs.rounds.next_row.Tie as tie
 
-abbrev Inv-loop : tie.InvT-loop
-Inv-loop part from i₀ i = Done part i
+add-result : tie.Need-add-result
+add-result c =
+    let b = c .before .before .before in
+    omega (arith, next-part (now (b .args .part)) (b .args .from) (b .pre) (c .first-row .ensures) .1, b .good)
 
-abbrev μ-loop : tie.MeasureT-loop
-μ-loop part from i₀ i = length part - i
-
-loop-holds : tie.Need-loop-holds Inv-loop μ-loop
-loop-holds c = c .pre
-
-returns : tie.Need-returns Inv-loop μ-loop
-returns c = first-left (now (c .before .before .before .before .args .part)) _ (c .before .before .before .loop .inv) (omega arith) (omega arith)
-
-loop-again : tie.Need-loop-again Inv-loop μ-loop
-loop-again c = done-more (now (c .before .before .before .before .args .part)) _ (c .before .before .before .loop .inv) (omega arith) (omega arith)
-
-returns-2 : tie.Need-returns-2 Inv-loop μ-loop
-returns-2 c = none-left (now (c .before .before .args .part)) _ (c .before .loop .inv) (omega arith)
+returns : tie.Need-returns
+returns c = let b = c .before .before .before in next-part (now (b .args .part)) (b .args .from) (b .pre) (c .first-row .ensures) .0
 
 pub next-row-spec : {M : Type 1} → statement M
 next-row-spec =
-    tie.close
-    (tie.spec
-    Inv-loop μ-loop loop-holds (search needs) (search needs) returns (search needs) (search needs) loop-again returns-2)
+    tie.close (tie.spec (search needs) (search needs) (search needs) (search needs) (search needs) add-result returns)
