@@ -47,7 +47,8 @@ sizeOf (Record k) = k .nbytes
 sizeOf (Gap n) = n
 sizeOf (Refused c p) = 0
 
--- number, place and count of each case: a piece is 0, 0 and its size; a refusal its number, its place and 0
+-- number, place and count of each case: a piece is 0, 0 and its size (the paper leaves that count free); a refusal its number, its
+-- place and 0
 abbrev pub answerOf : Piece → Answer
 answerOf (Record k) = done (k .nbytes)
 answerOf (Gap n) = done n

@@ -123,7 +123,7 @@ pub fn is_formed(nbytes: u32, version: u32, objlen: u32, keylen: u32, sum: usize
     true
 }
 
-// The header at a place, read within the bytes before end: well formed, or bad.
+// The header at a place, read within the bytes before end: well formed, or bad; bad too where end is past the slice.
 pub fn read_header(s: &[u8], at: usize, end: usize) -> Header
     ensures { λ r. ⌜ r ≡ headerIn (before s) at end ⌝ }
 {

@@ -20,7 +20,7 @@ pub enum Found {
     Cut,
 }
 
-// The string whose length byte is at a place, if it ends at or before end.
+// The string whose length byte is at a place, if it ends at or before end; cut too where end is past the slice.
 pub fn read_text(s: &[u8], at: usize, end: usize) -> Found
     ensures { λ r. ⌜ r ≡ textIn (before s) at end ⌝ }
 {
