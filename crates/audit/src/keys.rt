@@ -8,7 +8,8 @@ ghost use Rattle.wire.specs.Lent.{before, after};
 ghost use Rattle.wire.specs.Name.{tDirectory};
 ghost use Rattle.record.specs.Name.{named};
 ghost use Rattle.rows.specs.Row.{Rises};
-ghost use Rattle.rules.specs.Turn.{keysTurn};
+ghost use Rattle.rules.specs.Part.{dir, listed};
+ghost use Rattle.rules.specs.Turn.{found, keysTurn};
 ghost use Rattle.audit.specs.Listing.{given, Tested, Found, copyStep, copiesStep, dataStep};
 ghost use Rattle.audit.specs.Listing.{Runs, NoneBelow, NoOther, Tables};
 use directory::DirHead;
@@ -65,7 +66,7 @@ pub enum Keys {
 
 // The part of a record that is listed: 14 is a directory, found and not done.
 fn mark_of(file: &[u8], k: Key) -> u32
-    ensures { λ r. ⌜ r ≡ pick (named (before file) (k .class) tDirectory) 14 5 ⌝ }
+    ensures { λ r. ⌜ r ≡ pick (named (before file) (k .class) tDirectory) (found dir) listed ⌝ }
 {
     if is_directory(file, k.class) {
         return 14;

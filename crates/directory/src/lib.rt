@@ -13,6 +13,9 @@ use wire::number::be32;
 use wire::text::Found;
 use wire::text::read_text;
 
+// The bytes of a directory header.
+const EXTENT: usize = 30;
+
 pub struct DirHead {
     pub nbyteskeys: u32,
     pub nbytesname: u32,
@@ -36,7 +39,7 @@ fn read_dir(s: &[u8], at: usize, end: usize) -> Dir
     if end < at {
         return Dir::Bad;
     }
-    if end - at < 30 {
+    if end - at < EXTENT {
         return Dir::Bad;
     }
     if 1000 < be16(s, at) {

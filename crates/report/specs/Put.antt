@@ -1,4 +1,4 @@
--- Text that is written into a buffer.
+-- Only private functions and proofs use these: text that is written into a buffer at a place.
 use Prim.Native.Nat.{ℕ, _+_, _≤_}
 use mathlib.Core.List.{List}
 use mathlib.Core.Path.{_≡_}
