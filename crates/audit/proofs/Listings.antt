@@ -29,7 +29,7 @@ use Rattle.rows.specs.declared.Row.{Row}
 use Rattle.rows.specs.declared.Row.the-variants.{At, Nothing}
 use Rattle.audit.specs.Listing.{Step, Ran, given, copyStep, Tested, NoneBelow, NoOther, Tables}
 use Rattle.audit.specs.declared.keys.Span.{Span}
-use Rattle.audit.specs.declared.keys.Gift.{Gift}
+use Rattle.audit.specs.declared.keys.Claim.{Claim}
 use Rattle.audit.specs.declared.keys.Entry.{Entry}
 use Rattle.audit.specs.declared.keys.Entry.the-variants as entry
 use Rattle.audit.specs.declared.keys.Listed.{Listed}
@@ -142,22 +142,22 @@ pub copy-stopped : (ps us vs : List ℕ) (n p : ℕ) {x : Turn} → x ≡ stop n
 unfolding NoOther
 copy-stopped ps us vs n p e = (ran-fault us vs n p e, tt)
 
--- a gift that is made, or is not
-module _ (g : Gift) (ps os : List ℕ) where
-  pub gift-late : (us vs : List ℕ) → (getD ps (g .row) 0 ≡ 7 → ⊥)
+-- a claim that is met, or comes too late
+module _ (g : Claim) (ps os : List ℕ) where
+  pub claim-late : (us vs : List ℕ) → (getD ps (g .row) 0 ≡ 7 → ⊥)
       → Ran (given g ps os) (Fault 14 (g .place)) us vs × NoOther ps us (Fault 14 (g .place))
-  gift-late us vs z = copy-stopped ps us vs 14 (g .place) (rw (ne-eqb (getD ps (g .row) 0) 7 z))
+  claim-late us vs z = copy-stopped ps us vs 14 (g .place) (rw (ne-eqb (getD ps (g .row) 0) 7 z))
 
-  pub gift-made : g .row < length ps → getD ps (g .row) 0 ≡ 7 → Ran (given g ps os) (Next (g .next) (g .row))
+  pub claim-made : g .row < length ps → getD ps (g .row) 0 ≡ 7 → Ran (given g ps os) (Next (g .next) (g .row))
       (set ps (g .row) (g .part)) (set os (g .row) (g .dir)) × NoOther ps (set ps (g .row) (g .part)) (Next (g .next) (g .row))
-  gift-made l z = row-set ps os (g .row) (g .part) (g .dir) (g .next) l (rw (eq-eqb (getD ps (g .row) 0) 7 z))
+  claim-made l z = row-set ps os (g .row) (g .part) (g .dir) (g .next) l (rw (eq-eqb (getD ps (g .row) 0) 7 z))
 
 -- one copy, from its test
 module _ (qs : List ℕ) (step : Step) (ps os us vs : List ℕ) {x : Entry} (h : Tested qs step x) where
-  pub copy-row : {g : Gift} → x ≡ entry.Fits g → g .row < length qs
+  pub copy-row : {g : Claim} → x ≡ entry.Fits g → g .row < length qs
   copy-row {g} e = let t : Tested qs step (entry.Fits g) = rw e at h in t .0
 
-  pub copy-gave : {g : Gift} (r : Listed) → x ≡ entry.Fits g → Ran (given g ps os) r us vs × NoOther ps us r
+  pub copy-gave : {g : Claim} (r : Listed) → x ≡ entry.Fits g → Ran (given g ps os) r us vs × NoOther ps us r
       → Ran (step ps os) r us vs × NoOther ps us r
   copy-gave {g} r e k = let t : Tested qs step (entry.Fits g) = rw e at h in (rw (t .1 ps os) (k .0), k .1)
 

@@ -27,7 +27,7 @@ use Rattle.rules.specs.Turn.{nextRow, rounds}
 use Rattle.rules.proofs.Rows.{next-row-at, next-row-none, next-row, rounds-over, rounds-more}
 use Rattle.rules.proofs.Runs.{gave}
 use Rattle.audit.specs.Listing.{Ran, given, Heading, Found, NoneBelow, Done, DoneTo, Tables}
-use Rattle.audit.specs.declared.keys.Gift.{Gift}
+use Rattle.audit.specs.declared.keys.Claim.{Claim}
 use Rattle.audit.specs.declared.keys.Keys.{Keys}
 use Rattle.audit.specs.declared.keys.Keys.the-variants as keys
 use Rattle.audit.specs.declared.keys.Listed.{Listed}
@@ -121,10 +121,10 @@ module _ (s qs : List ℕ) (d : ℕ) (dh : DirHead) (ps os : List ℕ) {x : Keys
       → Ran (keysTurn s qs d dh ps os) (Fault c p) us vs × NoneBelow ps us (Fault c p)
   keys-stops us vs {c} {p} e = let f : Found s qs d dh (keys.Fault c p) = rw e at h in faulted ps us vs c p (f ps os)
 
-  pub keys-heading : {g : Gift} {a end : ℕ} → x ≡ keys.Held g a end → Heading s qs d dh g a end
+  pub keys-heading : {g : Claim} {a end : ℕ} → x ≡ keys.Held g a end → Heading s qs d dh g a end
   keys-heading {g} {a} {end} e = let f : Found s qs d dh (keys.Held g a end) = rw e at h in f
 
-module _ {s qs : List ℕ} {d : ℕ} {dh : DirHead} {g : Gift} {a end : ℕ} (k : Heading s qs d dh g a end) (ps os us vs : List ℕ)
+module _ {s qs : List ℕ} {d : ℕ} {dh : DirHead} {g : Claim} {a end : ℕ} (k : Heading s qs d dh g a end) (ps os us vs : List ℕ)
     (r : Listed) (h : Ran (given g ps os) r us vs) where
   pub keys-late : {n p : ℕ} → r ≡ Fault n p → Ran (keysTurn s qs d dh ps os) r us vs × NoneBelow ps us r
   keys-late {n} {p} e =

@@ -10,7 +10,7 @@ use Rattle.fileheader.specs.declared.FileHead.{FileHead}
 use Rattle.rows.specs.Row.{Rises}
 use Rattle.rules.specs.Turn.{Turn, going, stop, andThen, give, copyTurn, copies, dataTurn, keysTurn, rounds}
 use Rattle.audit.specs.declared.keys.Span.{Span}
-use Rattle.audit.specs.declared.keys.Gift.{Gift}
+use Rattle.audit.specs.declared.keys.Claim.{Claim}
 use Rattle.audit.specs.declared.keys.Entry.{Entry}
 use Rattle.audit.specs.declared.keys.Entry.the-variants as entry
 use Rattle.audit.specs.declared.keys.Keys.{Keys}
@@ -51,8 +51,8 @@ dataStep s qs l a ps os = dataTurn s qs (l .dir) (l .seek) a (l .end) ps os (a +
 abbrev pub roundsStep : List ℕ → FileHead → List ℕ → Step
 roundsStep s h qs ps os = rounds s h qs (length qs) ps os 0
 
--- a gift is given
-abbrev pub given : Gift → Step
+-- a claim is given
+abbrev pub given : Claim → Step
 given g = give (g .row) (g .part) (g .dir) (g .next) (g .place)
 
 -- a step that a test of the bytes told: it gives, or it stops
@@ -61,7 +61,7 @@ Tested qs step (entry.Fits g) = (g .row < length qs) × ((ps os : List ℕ) → 
 Tested qs step (entry.Fault c p) = (ps os : List ℕ) → step ps os ≡ stop c p
 
 -- a keys list whose record was found
-pub record Heading (s qs : List ℕ) (d : ℕ) (dh : DirHead) (g : Gift) (from end : ℕ) : Type 0 where
+pub record Heading (s qs : List ℕ) (d : ℕ) (dh : DirHead) (g : Claim) (from end : ℕ) : Type 0 where
   pub row : g .row < length qs
   pub part : g .part ≡ 4
   pub begins : from ≤ end

@@ -43,7 +43,7 @@ pub struct Span {
 }
 
 // A record that is to have a part and an owner: its row and both; the next place of a list; the place of a refusal.
-pub struct Gift {
+pub struct Claim {
     pub row: usize,
     pub part: u32,
     pub dir: u32,
@@ -53,14 +53,14 @@ pub struct Gift {
 
 // A copy: what it gives its record, or a refusal.
 pub enum Entry {
-    Fits(Gift),
+    Fits(Claim),
     Fault(u32, usize),
 }
 
 // A directory's keys list: none, what it gives its own record, with the start and end of its data, or a refusal.
 pub enum Keys {
     Nothing,
-    Held(Gift, usize, usize),
+    Held(Claim, usize, usize),
     Fault(u32, usize),
 }
 
@@ -85,7 +85,7 @@ fn found_row(mark: u32, row: usize, other: usize) -> usize
 }
 
 // Gives a record its part and owner, where it has none.
-fn give_part(part: &mut [u32], owner: &mut [u32], g: Gift) -> Listed
+fn assign_part(part: &mut [u32], owner: &mut [u32], g: Claim) -> Listed
     requires { ⌜ (g .row < length (now part)) × (length (now owner) ≡ length (now part)) ⌝ }
     ensures { λ r. ⌜ Runs (given g) part owner r × NoOther (before part) (after part) r ⌝ }
 {
@@ -119,7 +119,7 @@ fn test_copy(file: &[u8], start: &[u32], list: Span, at: usize, near: usize) -> 
     if k.seekpdir != list.dir as u64 {
         return Entry::Fault(13, at);
     }
-    Entry::Fits(Gift {
+    Entry::Fits(Claim {
         row,
         part: mark_of(file, l),
         dir: list.dir,
@@ -143,7 +143,7 @@ fn one_copy(
         × NoOther (before part) (after part) r ⌝ }
 {
     match test_copy(file, start, list, at, near) {
-        Entry::Fits(g) => give_part(part, owner, g),
+        Entry::Fits(g) => assign_part(part, owner, g),
         Entry::Fault(c, p) => Listed::Fault(c, p),
     }
 }
@@ -227,7 +227,7 @@ fn find_list(file: &[u8], start: &[u32], dir: u32, head: DirHead) -> Keys
         return Keys::Fault(12, seek as usize);
     };
     let next = from + 4;
-    let g = Gift {
+    let g = Claim {
         row,
         part: 4,
         dir,
@@ -254,7 +254,7 @@ pub(crate) fn list_keys(
         Keys::Nothing => Listed::Next(0, part.len()),
         Keys::Fault(c, p) => Listed::Fault(c, p),
         Keys::Held(g, from, end) => {
-            let r = give_part(part, owner, g);
+            let r = assign_part(part, owner, g);
             let Listed::Next(_, _) = r else {
                 return r;
             };

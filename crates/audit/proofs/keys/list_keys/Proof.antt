@@ -22,8 +22,8 @@ find-list-requires c κs = search needs
 enum-told : tie.Need-enum-told
 enum-told c = search needs
 
-give-part-requires : tie.Need-give-part-requires
-give-part-requires c κs =
+assign-part-requires : tie.Need-assign-part-requires
+assign-part-requires c κs =
     let c10 = c .before .before .before .before .before .before .before .before .before .before in
     let t = c10 .pre in
     (omega (arith, heading (c .before .before) .row, t .parts), t .owners ∙ sym (t .parts))
@@ -32,7 +32,7 @@ returns : tie.Need-returns
 returns c =
     let c6 = c .before .before .before .before .before .before in
     let c9 = c6 .before .before .before in
-    keys-late (heading c9) _ _ _ _ _ (c6 .give-part .ensures .0) (c .enum-told3 .given .1)
+    keys-late (heading c9) _ _ _ _ _ (c6 .assign-part .ensures .0) (c .enum-told3 .given .1)
 
 list-data-requires : tie.Need-list-data-requires
 list-data-requires c κs =
@@ -40,7 +40,7 @@ list-data-requires c κs =
     let c11 = c8 .before .before .before in
     let c19 = c11 .before .before .before .before .before .before .before .before in
     let k = heading c11 in
-    let l = c8 .give-part .kept in
+    let l = c8 .assign-part .kept in
     (tables-kept (c19 .pre) (l .0) (l .1 .0), k .begins, k .ends)
 
 returns-2 : tie.Need-returns-2
@@ -58,11 +58,11 @@ returns-4 c =
     let c24 = c16 .before .before .before .before .before .before .before .before in
     let k = heading c16 in
     let t = c24 .pre in
-    keys-ran k _ _ _ _ _ (c13 .give-part .ensures .0) (c7 .enum-told2 .given .1) (omega (arith, k .row, t .parts)) _ _ _ (c4 .list-data .ensures)
+    keys-ran k _ _ _ _ _ (c13 .assign-part .ensures .0) (c7 .enum-told2 .given .1) (omega (arith, k .row, t .parts)) _ _ _ (c4 .list-data .ensures)
 
 pub list-keys-spec : {M : Type 1} → statement M
 list-keys-spec =
     tie.close
     (tie.spec
-    find-list-requires enum-told (search needs) (search needs) give-part-requires (search needs) (search needs) (search needs)
+    find-list-requires enum-told (search needs) (search needs) assign-part-requires (search needs) (search needs) (search needs)
     (search needs) returns list-data-requires returns-2 returns-3 (search needs) (search needs) returns-4)

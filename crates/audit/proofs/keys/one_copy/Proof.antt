@@ -10,8 +10,8 @@ use Rattle.audit.proofs.keys.one_copy.Tie as tie
 test-copy-requires : tie.Need-test-copy-requires
 test-copy-requires c κs = search needs
 
-give-part-requires : tie.Need-give-part-requires
-give-part-requires c κs =
+assign-part-requires : tie.Need-assign-part-requires
+assign-part-requires c κs =
     let c3 = c .before .before .before in
     let c5 = c3 .before .before in
     let c10 = c5 .before .before .before .before .before in
@@ -29,7 +29,7 @@ returns c =
     let c15 = c10 .before .before .before .before .before in
     let a = c15 .args in
     copy-gave (now (a .start)) (copyStep (now (a .file)) (now (a .start)) (a .list) (a .at)) _ _ _ _ (c10 .test-copy .ensures) _ (c8 .g .given .1)
-    (c4 .give-part .ensures)
+    (c4 .assign-part .ensures)
 
 returns-2 : tie.Need-returns-2
 returns-2 c =
@@ -42,4 +42,4 @@ pub one-copy-spec : {M : Type 1} → statement M
 one-copy-spec =
     tie.close
     (tie.spec
-    test-copy-requires (search needs) give-part-requires (search needs) (search needs) (search needs) returns returns-2)
+    test-copy-requires (search needs) assign-part-requires (search needs) (search needs) (search needs) returns returns-2)
