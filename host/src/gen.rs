@@ -4,6 +4,7 @@ use crate::model::key::NewKey;
 
 pub mod faults;
 pub mod files;
+pub mod gaps;
 pub mod infos;
 pub mod nested;
 pub mod shapes;
@@ -249,7 +250,7 @@ pub fn one_root() -> Vec<u8> {
     file.extend([0; 8]);
     // The free list.
     file.extend(key(309, 55, 100, "TFile", "a"));
-    file.extend(segment(297, 309));
+    file.extend(segment(297, 308));
     file.extend(segment(364, 2_000_000_000));
     file
 }

@@ -52,9 +52,12 @@ fn examples() {
     let file = one_root();
     assert_eq!(audit(&mut tally, &file, [5; 3]).0, answer(0, 0, 5));
     assert_eq!(audit(&mut tally, &file, [4; 3]).0, answer(7, 0, 5));
-    let mut shorter = file.clone();
-    shorter[309 + 35 + 9] = 308u32.to_be_bytes()[3];
-    assert_eq!(audit_by_rules(&mut tally, &shorter).0, answer(9, 309, 0));
+    // The byte after the gap, as document 004 has it, and the byte before its last.
+    for last in [309u32, 307] {
+        let mut other = file.clone();
+        other[309 + 35 + 6..][..4].copy_from_slice(&last.to_be_bytes());
+        assert_eq!(audit_by_rules(&mut tally, &other).0, answer(9, 309, 0));
+    }
 
     let mut plan = one_root_plan();
     assert!(plan.build().bytes == file, "the plan of one.root gives other bytes");
@@ -76,7 +79,7 @@ fn examples() {
         close(&mut left);
         assert_eq!(audit_by_rules(&mut tally, &left).0, answer(number, place, 0));
     }
-    tally.finish(10, &[0, 1, 5, 7, 8, 9, 14]);
+    tally.finish(11, &[0, 1, 5, 7, 8, 9, 14]);
 }
 
 #[test]
@@ -116,7 +119,7 @@ fn two_bytes() {
 fn every_number() {
     let mut tally = Tally::new("audit, each number of one.root changed");
     let file = one_root();
-    let numbers = [0, 1, 2, 4, 12, 35, 38, 50, 55, 68, 79, 100, 168, 218, 297, 309, 364, 2_000_000_000, 1 << 31];
+    let numbers = [0, 1, 2, 4, 12, 35, 38, 50, 55, 68, 79, 100, 168, 218, 297, 308, 309, 364, 2_000_000_000, 1 << 31];
     for at in 0..=file.len() - 4 {
         for number in numbers.iter().flat_map(|&number: &u32| [number, number.wrapping_sub(1), number.wrapping_neg()]) {
             let mut changed = file.clone();

@@ -180,8 +180,8 @@ fn changes_of_verdicts() {
     let (_, version, _) = rootaudit(&["--version"]);
     let changes = document("CHANGELOG.md");
     let requests = changes.lines().filter(|line| line.starts_with("| ") && !line.starts_with("| request"));
-    let requests: Vec<&str> = requests.map(|line| line.split(" | ").next().unwrap()).collect();
-    assert_eq!(requests, ["| base"]);
-    assert!(version.contains("requests: none"));
+    let requests: Vec<&str> = requests.map(|line| line.split(' ').nth(1).unwrap()).collect();
+    assert_eq!(requests[0], "base");
+    assert!(version.contains(&format!("\nrequests: {}\n", requests[1..].join(", "))), "{version}");
     assert!(document("README.md").contains("There is no licence file"));
 }

@@ -89,7 +89,7 @@ const REFUSALS: [(Change, &str, &str, usize); 15] = [
         0,
     ),
     (
-        Change::Byte(353, 52),
+        Change::Byte(353, 53),
         "refused 9 at 309: the list of free space, which should stand here, is damaged or is not that of the gaps",
         AGAIN,
         0,

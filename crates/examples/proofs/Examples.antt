@@ -9,12 +9,14 @@ use Rattle.date.specs.Date.{packed, packAnswer}
 use Rattle.key.specs.Header.{keyAt, namesIn, headerIn}
 use Rattle.key.specs.Piece.{sizeAt, recordThere, pieceAt, pieceAnswer, onRecord}
 use Rattle.key.specs.Writer.{headerBytes, nameBytes}
-use Rattle.record.specs.Name.{named}
-use Rattle.fileheader.specs.File.{openedAs}
-use Rattle.keylist.specs.Keys.{copyIn}
-use Rattle.rules.specs.Order.{verdict}
+use Rattle.record.specs.Name.{sameBytes, named}
+use Rattle.fileheader.specs.File.{fileHead, openedAs}
+use Rattle.directory.specs.Dir.{dirAt, dirIn, keptIf, headDirIn, headIn, dirOf}
+use Rattle.keylist.specs.Keys.{dataIn, freeIn, listClass, listIn, copyIn}
+use Rattle.rules.specs.Free.{segmentsAt, versionsFit, gaps, freeHolds, infoHolds}
+use Rattle.rules.specs.Order.{chain, ruled, verdict}
 use Rattle.rules.specs.Row.{starts}
-use Rattle.rules.specs.Turn.{copyTurn}
+use Rattle.rules.specs.Turn.{rowOf, listedMark, copyTurn, copies, dataTurn, keysIn, keysTurn, dirTurn, roundTurn, nextRow, rounds, firstPart}
 use Rattle.infofield.specs.Field.{andThen, fieldAt, numbersAt, endOf, countAt, counted, versionedAt, versioned, endedAt}
 use Rattle.infofield.specs.Field.{textFieldAt, unnamedAt, zeroAt, objectAt}
 use Rattle.infotag.specs.Tag.{firstIn, classIn, classOf, classNameAt, newTag, oldTag, tagAt, headAt, headed}
@@ -26,7 +28,9 @@ use Rattle.examples.specs.Worked.{examples}
 
 pub worked : all examples ≡ true
 unfolding eqBytes beValue numAt beBytes signedOf bitsOf textSize textOf textAt textIn onText contentOf textBytes packed packAnswer keyAt
-    namesIn headerIn sizeAt recordThere pieceAt pieceAnswer onRecord headerBytes nameBytes named openedAs copyIn verdict starts copyTurn
+    namesIn headerIn sizeAt recordThere pieceAt pieceAnswer onRecord headerBytes nameBytes sameBytes named fileHead openedAs dirAt dirIn keptIf
+    headDirIn headIn dirOf dataIn freeIn listClass listIn copyIn segmentsAt versionsFit gaps freeHolds infoHolds chain ruled verdict starts
+    rowOf listedMark copyTurn copies dataTurn keysIn keysTurn dirTurn roundTurn nextRow rounds firstPart
     andThen fieldAt numbersAt endOf countAt counted versionedAt versioned endedAt textFieldAt unnamedAt zeroAt objectAt firstIn classIn
     classOf classNameAt newTag oldTag tagAt headAt headed namedAt withName detailsAt baseAt withFields counterAt ownAt memberAt flat times ends
     elementAt collectionAt sized arrayBody arrayAt classBody classAt wholeAt listAt recordAt infoAt infoAnswer infoTable

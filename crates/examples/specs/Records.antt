@@ -3,10 +3,14 @@ use Prim.Native.Nat.{ℕ, suc, zero, _+_}
 use mathlib.Core.List.{List, [], _∷_, _++_}
 use lib.IntN.{pos}
 use lib.ListN.{length, replicate}
+use Rattle.wire.specs.Layout.{offsetWidth, valueBytes}
 use Rattle.wire.specs.Name.{tFile, tList, streamerInfo}
 use Rattle.wire.specs.Number.{beBytes}
 use Rattle.wire.specs.Text.{textBytes}
 use Rattle.key.specs.Writer.{headerBytes, sumBytes}
+use Rattle.fileheader.specs.File.{fileLayout}
+use Rattle.directory.specs.Dir.{dirLayout}
+use Rattle.rules.specs.Free.{segment}
 use Rattle.infotag.specs.Tag.{classNames}
 
 -- the header of a record with n bytes of data
@@ -34,6 +38,18 @@ headKey = keyBytes 33 100 0 tFile (97 ∷ []) []
 
 abbrev pub objectKey : List ℕ
 objectKey = keyBytes 10 168 100 tObjString (120 ∷ []) []
+
+-- one.root, with dates of 0: header, head, object, keys list, a gap of 12 bytes that is listed with this last, free list
+abbrev pub oneRoot : ℕ → List ℕ
+oneRoot last =
+    valueBytes (fileLayout offsetWidth) (1919905652 ∷ 62400 ∷ 100 ∷ 364 ∷ 309 ∷ 55 ∷ 2 ∷ 38 ∷ 4 ∷ []) ++ replicate 55 0
+    ++ headKey ++ textBytes (97 ∷ []) ++ textBytes []
+    ++ valueBytes (dirLayout offsetWidth) (5 ∷ 0 ∷ 0 ∷ 79 ∷ 38 ∷ 100 ∷ 0 ∷ 218 ∷ [])
+    ++ objectKey ++ replicate 10 7
+    ++ keyBytes 44 218 100 tFile (97 ∷ []) [] ++ beBytes 4 1 ++ objectKey
+    ++ beBytes 4 4294967284 ++ replicate 8 0
+    ++ keyBytes 20 309 100 tFile (97 ∷ []) []
+    ++ valueBytes segment (1 ∷ 297 ∷ last ∷ []) ++ valueBytes segment (1 ∷ 364 ∷ 2000000000 ∷ [])
 
 -- a record at 0 whose name has n bytes: its key, of class "A", is all of it
 abbrev pub longName : ℕ → List ℕ

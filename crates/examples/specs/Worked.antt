@@ -1,4 +1,4 @@
--- Document 01, "Examples by hand", those marked *: one table of what the definitions give.
+-- Document 01, "Examples by hand", those marked * and one.root's verdicts: one table of what the definitions give.
 use Prim.Native.Nat.{ℕ}
 use mathlib.Core.Bool.{false}
 use mathlib.Core.List.{List, [], _∷_, _++_}
@@ -14,10 +14,10 @@ use Rattle.key.specs.Piece.{pieceAt, pieceAnswer}
 use Rattle.key.specs.declared.header.Header.{Header}
 use Rattle.key.specs.declared.header.Header.the-variants.{Good, Bad}
 use Rattle.rules.specs.Free.{isGap}
-use Rattle.rules.specs.Order.{Verdict, verdict, numberOf, placeOf, countOf}
+use Rattle.rules.specs.Order.{Verdict, verdict, numberOf, placeOf, countOf, startsOf, partsOf, ownersOf}
 use Rattle.rules.specs.Turn.{Turn, going, stop, copyTurn}
 use Rattle.streamer.specs.Info.{infoAnswer, infoTable}
-use Rattle.examples.specs.Records.{headKey, objectKey, longName, twoClasses, tenKinds}
+use Rattle.examples.specs.Records.{headKey, objectKey, oneRoot, longName, twoClasses, tenKinds}
 
 -- the date of the first example, with a month
 abbrev pub theDate : ℕ → Date
@@ -36,6 +36,10 @@ answers a n p c = eq (a .number) n ∷ eq (a .place) p ∷ eq (a .count) c ∷ [
 
 abbrev pub says : Verdict → ℕ → ℕ → ℕ → List Check
 says v n p c = eq (numberOf v) n ∷ eq (placeOf v) p ∷ eq (countOf v) c ∷ []
+
+-- the rows of a verdict
+abbrev pub shows : Verdict → List ℕ → List ℕ → List ℕ → List Check
+shows v starts parts owners = yes (eqBytes (startsOf v) starts) ∷ yes (eqBytes (partsOf v) parts) ∷ yes (eqBytes (ownersOf v) owners) ∷ []
 
 -- a refusal among the directories: its number and place
 abbrev pub stops : Turn → ℕ → ℕ → List Check
@@ -88,6 +92,11 @@ examples =
     -- a copy with KeyLen one above its sum is 12 at its list; a plain one is read, and is 13 where no piece starts at its SeekKey
     ++ stops (copyTurn longCopy [] 100 218 41 [] [] 0) 12 218
     ++ stops (copyTurn objectKey [] 100 218 40 [] [] 0) 13 0
+    -- one.root, room 5 passes; room 4 is 7 with count 5. Segment 297 to 309 is 9 (document 02, request 01)
+    ++ says (verdict (oneRoot 308) 5) 0 0 5
+    ++ shows (verdict (oneRoot 308) 5) (100 ∷ 168 ∷ 218 ∷ 297 ∷ 309 ∷ []) (1 ∷ 5 ∷ 4 ∷ 0 ∷ 2 ∷ []) (0 ∷ 100 ∷ 100 ∷ 0 ∷ 0 ∷ [])
+    ++ says (verdict (oneRoot 308) 4) 7 0 5
+    ++ says (verdict (oneRoot 309) 5) 9 309 0
     -- not one of the paper's: each of the ten kinds, and its row
     ++ answers (infoAnswer tenKinds 0 60) 0 0 10
     ++ yes

@@ -1,4 +1,4 @@
-// The program rootmap, run on one.root with the segment 297 to 308.
+// The program rootmap, run on one.root with the segment 297 to 309.
 fn main() {
     let mut input = listing::input_buffer();
     let n = io::read_full(0, &mut input);

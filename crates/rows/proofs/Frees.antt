@@ -108,7 +108,7 @@ module _ {s qs : List ℕ} {from end at i : ℕ} (m : Matching s qs from end at 
       left = λ k e. let x = m .left k e in (x .0, x .1, x .2 ∙ ap (λ (ys : List ℕ). segmentsAre s (ys ++ final s) (x .0) at) (skip z));
     }
 
-    module _ (z : n ≡ 0 → ⊥) {b : Bool} (told : b ≡ all (segmentFits s at end q (q + n))) where
+    module _ (z : n ≡ 0 → ⊥) {b : Bool} (told : b ≡ all (segmentFits s at end q (gapLast q n))) where
       next : gaps s (drop i qs) ≡ q ∷ gapLast q n ∷ gaps s (drop (i + 1) qs)
       unfolding gaps
       next =
@@ -121,18 +121,18 @@ module _ {s qs : List ℕ} {from end at i : ℕ} (m : Matching s qs from end at 
 
       pub matched : not b ≡ false → Matching s qs from end (at + 10) (i + 1)
       matched e =
-          let a = passes-all (segmentFits s at end q (q + n)) told e in
+          let a = passes-all (segmentFits s at end q (gapLast q n)) told e in
           record {
             within = omega arith;
             inside = a .0;
             left = λ k f. let x = m .left k f in
-                (x .0 - 1, omega (arith, a .0, x .1), x .2 ∙ opened (x .0) ∙ fit s at end q (q + n) (x .0) _ a (x .1));
+                (x .0 - 1, omega (arith, a .0, x .1), x .2 ∙ opened (x .0) ∙ fit s at end q (gapLast q n) (x .0) _ a (x .1));
           }
 
       pub unmatched : not b ≡ true → Matches s qs from end false
       unmatched e k f =
           let x = m .left k f in
-          sym (x .2 ∙ opened (x .0) ∙ unfit s at end q (q + n) (x .0) _ (fails (segmentFits s at end q (q + n)) told e) (x .1))
+          sym (x .2 ∙ opened (x .0) ∙ unfit s at end q (gapLast q n) (x .0) _ (fails (segmentFits s at end q (gapLast q n)) told e) (x .1))
 
   module _ (l : length qs ≤ i) where
     over : (k : ℕ) → segmentsAre s (gaps s (drop i qs) ++ final s) k at ≡ segmentsAre s (final s) k at

@@ -82,7 +82,7 @@ fn match_segments(file: &[u8], start: &[u32], from: usize, end: usize) -> bool
         let place = long(start[i]);
         let size = gap_size(file, place);
         if size != 0 {
-            if !is_segment(file, at, end, place, place + size) {
+            if !is_segment(file, at, end, place, place + size - 1) {
                 return false;
             }
             at += 10;

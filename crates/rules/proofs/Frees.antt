@@ -1,20 +1,30 @@
--- The free list rule: the test that the order makes holds exactly where the rule does.
-use Prim.Native.Nat.{ℕ}
+-- The free list rule: the test that the order makes holds exactly where the rule does, and what a gap's segment frees.
+use Prim.Native.Nat.{ℕ, _+_, _≤_, _<_}
 use mathlib.Core.Bool.{Bool, true, false, _&&_}
 use mathlib.Core.List.{List, _++_}
 use mathlib.Core.Path.{_≡_, refl}
+use native.Mathlib.Omega.{arith}
 use borrow.Author.Tests.{ne-eqb, eqb-false}
 use lib.Dec.{eqb}
 use Rattle.wire.specs.Check.{all, pick}
 use Rattle.wire.specs.Equal.{eqBytes}
 use Rattle.wire.proofs.Checks.{yes-all, all-yes, false-true}
 use Rattle.wire.proofs.Equal.{eq-same, same-eq}
+use Rattle.key.specs.Piece.{pieceAt}
+use Rattle.key.specs.declared.piece.Piece.the-variants.{Gap}
+use Rattle.key.proofs.Pieces.{from-gap}
 use Rattle.keylist.specs.Keys.{freeIn}
 use Rattle.keylist.specs.declared.Data.{Data}
 use Rattle.keylist.specs.declared.Data.the-variants.{Held, Bad}
 use Rattle.fileheader.specs.declared.FileHead.{FileHead}
-use Rattle.rules.specs.Free.{segmentsAt, segmentsFit, gaps, final, Free, freeData, freeHolds}
+use Rattle.rules.specs.Free.{segmentsAt, segmentsFit, gapLast, gaps, final, Free, freeData, freeHolds}
 use Rattle.rules.specs.Row.{starts}
+
+-- from first to last, both included, the segment of a gap has the bytes of the gap, and no others
+pub gap-bytes : (s : List ℕ) (q n x : ℕ) → pieceAt s q ≡ Gap n → (x ≤ gapLast q n → x < q + n) × (x < q + n → x ≤ gapLast q n)
+gap-bytes s q n x e =
+    let size = from-gap s q e .0 in
+    (λ h. omega (arith, h, size), λ h. omega (arith, h, size))
 
 pub and-both : (a b : Bool) → (a && b) ≡ true → (a ≡ true) × (b ≡ true)
 and-both true b e = (refl, e)

@@ -1,5 +1,5 @@
 -- The free list and the info record: document 01, "Free list" and "Info".
-use Prim.Native.Nat.{ℕ, zero, suc, _+_, _*_}
+use Prim.Native.Nat.{ℕ, zero, suc, _+_, _*_, _-_}
 use mathlib.Core.Bool.{Bool, true, false, _&&_, _||_}
 use mathlib.Core.List.{List, [], _∷_, _++_}
 use mathlib.Core.Path.{_≡_}
@@ -46,9 +46,9 @@ versionsFit s (suc n) a = le (versionAt s a) 1000 ∷ versionsFit s n (a + exten
 abbrev pub segmentsFit : List ℕ → ℕ → ℕ → ℕ → List Check
 segmentsFit s n a end = eq (a + n * extent segment) end ∷ versionsFit s n a
 
--- what a gap's segment has as last: the byte after the gap (document 004)
+-- what a gap's segment has as last: the last byte of the gap (document 02, request 01)
 abbrev pub gapLast : ℕ → ℕ → ℕ
-gapLast q n = q + n
+gapLast q n = q + n - 1
 
 -- the gaps of a partition in file order: first and last of each
 unfoldable pub gaps : List ℕ → List ℕ → List ℕ

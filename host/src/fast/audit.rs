@@ -77,7 +77,7 @@ fn walk<'a>(file: &'a [u8], tables: [&'a mut [u32]; 3]) -> Result<Audit<'a>, Ans
         let (size, given, bits) = match piece(file, at).map_err(|number| Answer::refusal(number, at as u64))? {
             Piece::Record(record, key) => (record.len(), part::UNLISTED, bits_of(&key)),
             Piece::Gap(size) => {
-                gaps.push([at as u32, (at + size) as u32]);
+                gaps.push([at as u32, (at + size - 1) as u32]);
                 (size, part::GAP, 0)
             }
         };
@@ -129,7 +129,7 @@ struct Audit<'a> {
     owner: &'a mut [u32],
     /// The bits of each piece.
     kept: Vec<u8>,
-    /// The start of each gap, and the byte after it.
+    /// The first and last byte of each gap.
     gaps: Vec<[u32; 2]>,
     /// The rows of the directories found and not done. Rows rise with places.
     waiting: BinaryHeap<Reverse<usize>>,

@@ -363,7 +363,7 @@ fn in_free_list() -> Vec<Fault> {
         fault(9, "NbytesFree").bytes(|file, _| shift(file, 20, 1)),
         fault(9, "free list's class").plan(|_, plan, t| plan.items[t.free].key.strings[0] = b"TDirectory".to_vec()),
         fault(9, "free list not plain").rough().plan(|_, plan, t| plan.items[t.free].more = 10),
-        fault(9, "free list packed").bytes(|file, t| shift(file, file.sites[t.free].start + 6, -1)),
+        fault(9, "free list packed").bytes(|file, t| shift(file, file.sites[t.free].start + 6, 1)),
     ]
 }
 
@@ -381,7 +381,8 @@ fn in_free_segments() -> Vec<Fault> {
         fault(9, "segment version").bytes(|file, t| patch16(file, data(file, t)[0], 1001)),
         fault(9, "final segment version").bytes(|file, t| patch16(file, data(file, t)[1], 1001)),
         fault(9, "segment's first").bytes(|file, t| shift(file, data(file, t)[0] + 2, 1)),
-        fault(9, "segment's last is its last byte").bytes(|file, t| shift(file, data(file, t)[0] + 6, -1)),
+        fault(9, "segment's last is the byte after").bytes(|file, t| shift(file, data(file, t)[0] + 6, 1)),
+        fault(9, "segment's last one less").bytes(|file, t| shift(file, data(file, t)[0] + 6, -1)),
         fault(9, "final segment's first").bytes(|file, t| shift(file, data(file, t)[1] + 2, -1)),
         fault(9, "final segment's last").bytes(|file, t| shift(file, data(file, t)[1] + 6, -1)),
         fault(9, "segments out of order").bytes(|file, t| {

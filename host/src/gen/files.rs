@@ -292,8 +292,9 @@ impl Plan {
 
     fn segments(&self, version: u16, sites: &[Site]) -> Vec<u8> {
         let gaps = self.order.iter().filter(|&&index| self.items[index].role == Role::Gap);
-        let mut segments: Vec<[usize; 2]> =
-            gaps.map(|&gap| [sites[gap].start, sites[gap].start + sites[gap].size]).collect();
+        // The first and the last byte. No site is known in the first round.
+        let segment = |site: &Site| [site.start, (site.start + site.size).saturating_sub(1)];
+        let mut segments: Vec<[usize; 2]> = gaps.map(|&gap| segment(&sites[gap])).collect();
         segments.push([end(sites), FREE_END as usize]);
         segments.iter().flat_map(|segment| segment_bytes(version, segment.map(|n| n as u32))).collect()
     }

@@ -225,12 +225,12 @@ impl Audit<'_> {
         self.give(record.row, part::FREE, 0)
     }
 
-    /// What the free list must hold: each gap and the byte after it, then what follows the file.
+    /// What the free list must hold: the first and last byte of each gap, then what follows the file.
     fn segments(&self) -> Vec<(u32, u32)> {
         let end = self.file.len() as u32;
         let ends = self.rows.iter().skip(1).map(|row| row.start).chain([end]);
         let gaps = self.rows.iter().zip(ends).filter(|(row, _)| row.part == part::GAP);
-        gaps.map(|(row, end)| (row.start, end)).chain([(end, FREE_END)]).collect()
+        gaps.map(|(row, end)| (row.start, end - 1)).chain([(end, FREE_END)]).collect()
     }
 
     fn info(&mut self, header: &Header) -> Option<()> {

@@ -194,7 +194,7 @@ impl<'a> Rules<'a> {
         let firsts_and_lasts: Vec<_> = segments.iter().map(|segment| segment.get(2..10)).collect();
         let after = |i: usize| self.partition.get(i + 1).map_or(self.file.len(), |&(at, _)| at);
         let gaps = self.partition.iter().enumerate().filter(|(_, (_, is_record))| !is_record);
-        let mut spaces: Vec<_> = gaps.map(|(i, &(at, _))| pair(at, after(i))).collect();
+        let mut spaces: Vec<_> = gaps.map(|(i, &(at, _))| pair(at, after(i) - 1)).collect();
         spaces.push(pair(self.file.len(), 2_000_000_000));
         seek_free != 100
             && key.plain

@@ -3,8 +3,8 @@
 use super::escape;
 use super::pieces::{self, Piece};
 use super::verdict::Verdict;
-use crate::model::bytes::Cursor;
 use crate::ffi::{number, Answer};
+use crate::model::bytes::Cursor;
 use std::ffi::OsStr;
 use std::io::{self, Write};
 use std::ops::RangeInclusive;

@@ -65,7 +65,7 @@ static void one_root(void)
     key(309, 55, 100, "TFile", "a");
     file[345] = file[355] = 1;
     number(346, 297);
-    number(350, 309);
+    number(350, 308);
     number(356, 364);
     number(360, 2000000000);
 }
@@ -104,8 +104,8 @@ int main(void)
     check(holds(tables[0], 8, start, 0) && holds(tables[1], 4, part, 0) && holds(tables[2], 5, owner, 0),
           "zeros after 7");
 
-    number(350, 308);
-    check(audit(5, 5, 5) == 9 && place == 309 && count == 0, "segment 297 to 308 is 9");
+    number(350, 309);
+    check(audit(5, 5, 5) == 9 && place == 309 && count == 0, "segment 297 to 309 is 9");
     check(holds(tables[0], 5, start, 0) && holds(tables[1], 5, part, 0) && holds(tables[2], 5, owner, 0),
           "zeros after 9");
     if (failed)

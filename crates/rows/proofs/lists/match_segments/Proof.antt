@@ -44,5 +44,5 @@ pub match-segments-spec : {M : Type 1} → statement M
 match-segments-spec =
     tie.close
     (tie.spec
-    Inv-loop μ-loop loop-holds (search needs) (search needs) (search needs) (search needs) (search needs) (search needs) returns
-    (search needs) (search needs) (search needs) loop-again (search needs) returns-2 (search needs) returns-3)
+    Inv-loop μ-loop loop-holds (search needs) (search needs) (search needs) (search needs) (search needs) (search needs) (search needs)
+    returns (search needs) (search needs) (search needs) loop-again (search needs) returns-2 (search needs) returns-3)

@@ -1,0 +1,122 @@
+//! Gaps as ROOT lists them, first and last byte, and every segment that is not that of its gap.
+
+use kirovadzun_host::compare::audit::{audit, audit_by_rules};
+use kirovadzun_host::compare::Tally;
+use kirovadzun_host::ffi::{number, part, Answer};
+use kirovadzun_host::gen::gaps::{put32, Gapped};
+use kirovadzun_host::gen::Rng;
+
+/// Sizes of gaps before the free list, and after it. None, one, adjacent ones, those of 4 bytes, one at the end.
+const SIZES: [(&[usize], &[usize]); 14] = [
+    (&[], &[]),
+    (&[4], &[]),
+    (&[5], &[]),
+    (&[12], &[]),
+    (&[4, 4], &[]),
+    (&[12, 4, 30], &[]),
+    (&[4; 40], &[]),
+    (&[255, 256, 257], &[]),
+    (&[65_535, 65_536], &[]),
+    (&[], &[4]),
+    (&[], &[4, 4]),
+    (&[4], &[4]),
+    (&[7, 4], &[4, 9]),
+    (&[1 << 20], &[1 << 20]),
+];
+
+fn refused(file: &Gapped) -> Answer {
+    Answer::refusal(number::FREE, file.seek_free as u64)
+}
+
+#[test]
+fn as_root_writes_them() {
+    let mut tally = Tally::new("audit, gaps as ROOT lists them");
+    for (before, after) in SIZES {
+        let file = Gapped::new(before, after);
+        let (answer, rows) = audit_by_rules(&mut tally, &file.bytes());
+        assert_eq!(answer, Answer::success(4 + file.gaps.len() as u64), "{before:?} {after:?}");
+        let gaps: Vec<usize> = rows.iter().filter(|row| row.part == part::GAP).map(|row| row.start as usize).collect();
+        assert_eq!(gaps, file.gaps.iter().map(|gap| gap[0]).collect::<Vec<_>>());
+    }
+    tally.finish(14, &[0]);
+}
+
+/// Each number of each segment, the final one too, becomes one near it. The first is the byte after: document 004's last.
+#[test]
+fn every_other_first_and_last() {
+    let mut tally = Tally::new("audit, firsts and lasts near those of gaps");
+    for (before, after) in SIZES {
+        let file = Gapped::new(before, after);
+        for field in (0..=file.gaps.len()).flat_map(|nth| file.segment(nth)) {
+            for by in [1, -1, 2, -2, 4, -4, 12, -12, 1 << 31] {
+                let mut bytes = file.bytes();
+                let stored = i64::from(u32::from_be_bytes(bytes[field..field + 4].try_into().unwrap()));
+                put32(&mut bytes, field, (stored + by) as usize);
+                let (answer, _) = audit(&mut tally, &bytes, [64; 3]);
+                assert_eq!(answer, refused(&file), "{before:?} {after:?}: {field} by {by}");
+            }
+        }
+    }
+    tally.finish(1_000, &[number::FREE]);
+}
+
+/// Gaps of these sizes, with these numbers in the first segments.
+fn with_segments(sizes: &[usize], segments: &[[usize; 2]]) -> (Gapped, Vec<u8>) {
+    let file = Gapped::new(sizes, &[]);
+    let mut bytes = file.bytes();
+    for (nth, segment) in segments.iter().enumerate() {
+        for (field, &number) in file.segment(nth).into_iter().zip(segment) {
+            put32(&mut bytes, field, number);
+        }
+    }
+    (file, bytes)
+}
+
+/// Two gaps side by side are two segments: neither one for both, nor one that ends where the next begins.
+#[test]
+fn adjacent_gaps() {
+    let mut tally = Tally::new("audit, adjacent gaps");
+    for (a, b) in [(4, 4), (4, 12), (12, 4), (100, 100)] {
+        let [first, next, after] = [297, 297 + a, 297 + a + b];
+        let good = [[first, next - 1], [next, after - 1]];
+        for (segments, passes) in [
+            (good, true),
+            ([good[1], good[0]], false),
+            ([good[0], good[0]], false),
+            ([[first, next], good[1]], false),
+            ([[first, next], [next, after]], false),
+            ([good[0], [next, after]], false),
+            ([good[0], [next - 1, after - 1]], false),
+            ([[first, after - 1], good[1]], false),
+            ([[first, after - 1], [after, after]], false),
+        ] {
+            let (file, bytes) = with_segments(&[a, b], &segments);
+            let expected = if passes { Answer::success(6) } else { refused(&file) };
+            assert_eq!(audit_by_rules(&mut tally, &bytes).0, expected, "{segments:?}");
+        }
+        // One gap listed as the two that it could be.
+        let (file, bytes) = with_segments(&[a + b], &good[..1]);
+        assert_eq!(audit_by_rules(&mut tally, &bytes).0, refused(&file));
+    }
+    tally.finish(40, &[0, number::FREE]);
+}
+
+/// Gaps of any sizes, and the same with some of the segments' bytes changed.
+#[test]
+fn any_gaps() {
+    let mut tally = Tally::new("audit, any gaps");
+    let mut rng = Rng::new(0x9a9);
+    for _ in 0..4_000 {
+        let mut sizes = |most| (0..rng.below(most)).map(|_| 4 + rng.below(40)).collect::<Vec<_>>();
+        let file = Gapped::new(&sizes(5), &sizes(3));
+        let mut bytes = file.bytes();
+        assert_eq!(audit_by_rules(&mut tally, &bytes).0, Answer::success(4 + file.gaps.len() as u64));
+        for _ in 0..=rng.below(2) {
+            let nth = rng.below(file.gaps.len() + 1);
+            let field = rng.pick(&file.segment(nth));
+            bytes[field + 3] = bytes[field + 3].wrapping_add(rng.pick(&[1, 255, 4, 252, 128]));
+        }
+        audit_by_rules(&mut tally, &bytes);
+    }
+    tally.finish(8_000, &[0, number::FREE]);
+}
