@@ -41,7 +41,7 @@ fn as_root_writes_them() {
     tally.finish(14, &[0]);
 }
 
-/// Each number of each segment, the final one too, becomes one near it. The first is the byte after: document 004's last.
+/// Each number of each segment, the final one too, is changed. A gap's last and 1 is document 004's.
 #[test]
 fn every_other_first_and_last() {
     let mut tally = Tally::new("audit, firsts and lasts near those of gaps");
@@ -94,11 +94,19 @@ fn adjacent_gaps() {
             let expected = if passes { Answer::success(6) } else { refused(&file) };
             assert_eq!(audit_by_rules(&mut tally, &bytes).0, expected, "{segments:?}");
         }
-        // One gap listed as the two that it could be.
-        let (file, bytes) = with_segments(&[a + b], &good[..1]);
-        assert_eq!(audit_by_rules(&mut tally, &bytes).0, refused(&file));
+        // One gap that is listed as two, and two that are listed as one.
+        for (listed, sizes) in [(vec![a, b], vec![a + b]), (vec![a + b], vec![a, b])] {
+            let file = Gapped::new(&listed, &[]);
+            let mut bytes = file.bytes();
+            let mut at = first;
+            for size in sizes {
+                put32(&mut bytes, at, size.wrapping_neg());
+                at += size;
+            }
+            assert_eq!(audit_by_rules(&mut tally, &bytes).0, refused(&file), "{listed:?}");
+        }
     }
-    tally.finish(40, &[0, number::FREE]);
+    tally.finish(44, &[0, number::FREE]);
 }
 
 /// Gaps of any sizes, and the same with some of the segments' bytes changed.

@@ -66,7 +66,7 @@ fn greatest_end() {
     tally.finish(19, &[0, number::BOUNDS, number::FREE]);
 }
 
-/// The greatest gap has 2^31 bytes. It is a piece, but a file that holds it ends past the greatest END, whatever is listed.
+/// The greatest gap has 2^31 bytes. It is a piece, but a file that holds it is longer than the greatest END.
 #[test]
 fn greatest_gap() {
     let Some(mut zeros) = Zeros::new() else { return };

@@ -10,12 +10,14 @@ use std::path::{Path, PathBuf};
 
 const MOST_END: usize = 1_999_999_999;
 
-/// A file with these gaps, of which only the stretches are written. None, and a word about it, if the disk has no such files.
+/// A file with these gaps, of which only the stretches are written. None, and a word about it, if the disk has no such
+/// files.
 fn sparse(name: &str, file: &Gapped) -> Option<(PathBuf, File)> {
     let path = Path::new(env!("CARGO_TARGET_TMPDIR")).join(name);
     let open = File::create(&path).unwrap();
     if let Err(error) = open.set_len(file.end as u64) {
         println!("skipped: no file of {} bytes: {error}", file.end);
+        fs::remove_file(path).unwrap();
         return None;
     }
     for (at, bytes) in &file.stretches {
@@ -29,7 +31,7 @@ fn sparse(name: &str, file: &Gapped) -> Option<(PathBuf, File)> {
     Some((path, open))
 }
 
-/// The words of a refusal behind the number and place.
+/// What a line says of a refusal, without the name and what to do now.
 fn refused(path: &Path) -> String {
     let (status, out, _) = rootaudit(&[path]);
     assert_eq!(status, REFUSED, "{out}");
@@ -46,7 +48,7 @@ fn as_large_as_a_file_may_be() {
         ("gaps_small.root", vec![4; 3]),
     ] {
         let file = Gapped::new(&sizes, &[]);
-        let Some((path, open)) = sparse(name, &file) else { return };
+        let Some((path, open)) = sparse(name, &file) else { continue };
         assert_eq!(rootaudit(&[&path]), (PASSED, line(&path, &format!("passed {}", 4 + sizes.len())), String::new()));
         for (nth, gap) in file.gaps.iter().enumerate() {
             for (last, is_pass) in [(gap[1] + 1, false), (gap[1] - 1, false), (gap[1], true)] {

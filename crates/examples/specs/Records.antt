@@ -1,4 +1,4 @@
--- Records of the worked examples, put together from the parts that documents 000 and 002 lay out.
+-- Records of the worked examples and one.root, put together from the parts that the papers lay out.
 use Prim.Native.Nat.{ℕ, suc, zero, _+_}
 use mathlib.Core.List.{List, [], _∷_, _++_}
 use lib.IntN.{pos}
@@ -39,10 +39,10 @@ headKey = keyBytes 33 100 0 tFile (97 ∷ []) []
 abbrev pub objectKey : List ℕ
 objectKey = keyBytes 10 168 100 tObjString (120 ∷ []) []
 
--- one.root, with dates of 0: header, head, object, keys list, a gap of 12 bytes that is listed with this last, free list
+-- one.root, with dates of 0: header, head, object, keys list, a gap (its number is −12) that is listed with this last, free list
 abbrev pub oneRoot : ℕ → List ℕ
 oneRoot last =
-    valueBytes (fileLayout offsetWidth) (1919905652 ∷ 62400 ∷ 100 ∷ 364 ∷ 309 ∷ 55 ∷ 2 ∷ 38 ∷ 4 ∷ []) ++ replicate 55 0
+    valueBytes (fileLayout offsetWidth) (1919905652 ∷ 62400 ∷ 100 ∷ 364 ∷ 309 ∷ 55 ∷ 2 ∷ 38 ∷ 4 ∷ 1 ∷ 0 ∷ 0 ∷ []) ++ replicate 55 0
     ++ headKey ++ textBytes (97 ∷ []) ++ textBytes []
     ++ valueBytes (dirLayout offsetWidth) (5 ∷ 0 ∷ 0 ∷ 79 ∷ 38 ∷ 100 ∷ 0 ∷ 218 ∷ [])
     ++ objectKey ++ replicate 10 7

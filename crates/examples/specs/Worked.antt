@@ -1,4 +1,4 @@
--- Document 01, "Examples by hand", those marked * and one.root's verdicts: one table of what the definitions give.
+-- Document 01, "Examples by hand", those marked * and one.root's 0, 7 and 9: one table of what the definitions give.
 use Prim.Native.Nat.{ℕ}
 use mathlib.Core.Bool.{false}
 use mathlib.Core.List.{List, [], _∷_, _++_}

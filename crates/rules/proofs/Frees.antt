@@ -1,4 +1,4 @@
--- The free list rule: the test that the order makes holds exactly where the rule does, and what a gap's segment frees.
+-- The free list rule: the test that the order makes holds exactly where the rule does; and which bytes a gap's segment has.
 use Prim.Native.Nat.{ℕ, _+_, _≤_, _<_}
 use mathlib.Core.Bool.{Bool, true, false, _&&_}
 use mathlib.Core.List.{List, _++_}
@@ -20,11 +20,19 @@ use Rattle.fileheader.specs.declared.FileHead.{FileHead}
 use Rattle.rules.specs.Free.{segmentsAt, segmentsFit, gapLast, gaps, final, Free, freeData, freeHolds}
 use Rattle.rules.specs.Row.{starts}
 
--- from first to last, both included, the segment of a gap has the bytes of the gap, and no others
-pub gap-bytes : (s : List ℕ) (q n x : ℕ) → pieceAt s q ≡ Gap n → (x ≤ gapLast q n → x < q + n) × (x < q + n → x ≤ gapLast q n)
+-- x is one of the bytes from first to last, both included; and one of the n bytes at q
+abbrev Between : ℕ → ℕ → ℕ → Type 0
+Between first last x = (first ≤ x) × (x ≤ last)
+
+abbrev Within : ℕ → ℕ → ℕ → Type 0
+Within q n x = (q ≤ x) × (x < q + n)
+
+-- from first to last the segment of a gap has the bytes of the gap, and no others
+pub gap-bytes : (s : List ℕ) (q n x : ℕ) → pieceAt s q ≡ Gap n
+    → (Between q (gapLast q n) x → Within q n x) × (Within q n x → Between q (gapLast q n) x)
 gap-bytes s q n x e =
     let size = from-gap s q e .0 in
-    (λ h. omega (arith, h, size), λ h. omega (arith, h, size))
+    (λ h. (h .0, omega (arith, h, size)), λ h. (h .0, omega (arith, h, size)))
 
 pub and-both : (a b : Bool) → (a && b) ≡ true → (a ≡ true) × (b ≡ true)
 and-both true b e = (refl, e)

@@ -364,6 +364,8 @@ fn in_free_list() -> Vec<Fault> {
         fault(9, "free list's class").plan(|_, plan, t| plan.items[t.free].key.strings[0] = b"TDirectory".to_vec()),
         fault(9, "free list not plain").rough().plan(|_, plan, t| plan.items[t.free].more = 10),
         fault(9, "free list packed").bytes(|file, t| shift(file, file.sites[t.free].start + 6, 1)),
+        // It would mend an ObjLen of 2^31.
+        fault(9, "free list's ObjLen one less").rough().bytes(|file, t| shift(file, file.sites[t.free].start + 6, -1)),
     ]
 }
 

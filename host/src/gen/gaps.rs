@@ -1,5 +1,5 @@
-//! one.root with other gaps, written as ROOT writes them: what `TFile::MakeFree(first, last)` leaves at `first` is the
-//! number first - last - 1, and the segment of such a gap is first and last.
+//! one.root with other gaps, each as ROOT's `TFile::MakeFree(first, last)` writes one: at `first` stands the number
+//! first - last - 1, and its segment is first and last. ROOT would join adjacent gaps, and end the file before a last one.
 
 use super::files::segment_bytes;
 use super::one_root;
