@@ -39,15 +39,21 @@ headKey = keyBytes 33 100 0 tFile (97 ∷ []) []
 abbrev pub objectKey : List ℕ
 objectKey = keyBytes 10 168 100 tObjString (120 ∷ []) []
 
--- one.root, with dates of 0: header, head, object, keys list, a gap (its number is −12) that is listed with this last, free list
+-- one.root, with dates of 0, and with this last of its gap's segment
 abbrev pub oneRoot : ℕ → List ℕ
 oneRoot last =
+    -- 0: the file header
     valueBytes (fileLayout offsetWidth) (1919905652 ∷ 62400 ∷ 100 ∷ 364 ∷ 309 ∷ 55 ∷ 2 ∷ 38 ∷ 4 ∷ 1 ∷ 0 ∷ 0 ∷ []) ++ replicate 55 0
+    -- 100: the head, its name and title, its directory header
     ++ headKey ++ textBytes (97 ∷ []) ++ textBytes []
     ++ valueBytes (dirLayout offsetWidth) (5 ∷ 0 ∷ 0 ∷ 79 ∷ 38 ∷ 100 ∷ 0 ∷ 218 ∷ [])
+    -- 168: "x"
     ++ objectKey ++ replicate 10 7
+    -- 218: the keys list, with one copy
     ++ keyBytes 44 218 100 tFile (97 ∷ []) [] ++ beBytes 4 1 ++ objectKey
+    -- 297: a gap of 12 bytes, which begins with −12
     ++ beBytes 4 4294967284 ++ replicate 8 0
+    -- 309: the free list
     ++ keyBytes 20 309 100 tFile (97 ∷ []) []
     ++ valueBytes segment (1 ∷ 297 ∷ last ∷ []) ++ valueBytes segment (1 ∷ 364 ∷ 2000000000 ∷ [])
 

@@ -32,7 +32,7 @@ pub gap-bytes : (s : List ℕ) (q n x : ℕ) → pieceAt s q ≡ Gap n
     → (Between q (gapLast q n) x → Within q n x) × (Within q n x → Between q (gapLast q n) x)
 gap-bytes s q n x e =
     let size = from-gap s q e .0 in
-    (λ h. (h .0, omega (arith, h, size)), λ h. (h .0, omega (arith, h, size)))
+    (λ h. omega arith, λ h. omega arith)
 
 pub and-both : (a b : Bool) → (a && b) ≡ true → (a ≡ true) × (b ≡ true)
 and-both true b e = (refl, e)
