@@ -27,8 +27,8 @@
 #define ROOTMAP_PASSED 0      /* success */
 #define ROOTMAP_SHORT 1       /* the file is shorter than its header, 100 bytes */
 #define ROOTMAP_MAGIC 2       /* it does not begin with "root" */
-#define ROOTMAP_WIDE 3        /* its offsets are not four bytes wide: Version is 1,000,000 or more, or Units is not 4 */
-#define ROOTMAP_BOUNDS 4      /* BEGIN is not 100, or END is not the file's length or above 1,999,999,999 */
+#define ROOTMAP_WIDE 3        /* Version and Units disagree: Units is 8 where Version is 1,000,000 or more, else 4 */
+#define ROOTMAP_BOUNDS 4      /* BEGIN is not 100, or END not the file's length or, with Units 4, above 1,999,999,999 */
 #define ROOTMAP_CHAIN 5       /* no piece of that size stands at the place */
 #define ROOTMAP_KEY 6         /* a record's key header is not well formed, or its SeekKey is not its place */
 #define ROOTMAP_UNFINISHED 7  /* there are more pieces than rows: no pass; lend count rows and call again */
@@ -102,8 +102,9 @@ uint64_t rootmap_read_piece(const uint8_t *file, size_t file_len, uint64_t at, u
                             uint64_t *place, uint64_t *count);
 
 /*
- * Writes a plain key header into buf at seek_key. KeyLen is 26 plus the three strings, each with
- * its length byte.
+ * Writes a plain key header into buf at seek_key. Its version is 1 to 2000; above 1000 SeekKey and
+ * SeekPdir take eight bytes each, else four. KeyLen is 26, or 34 with a version above 1000, plus the
+ * three strings, each with its length byte.
  *
  * Success: 0, place 0, count KeyLen, and exactly the KeyLen bytes of buf from seek_key are written.
  * Refused: 15, 16 or 17, the first that applies, place 0, count 0, and buf is as it was. 17 asks
@@ -133,8 +134,8 @@ uint64_t rootmap_write_key(uint32_t nbytes, uint32_t version, uint32_t objlen, u
  *    13           the copy
  *    14           the directory, for its list, or the copy
  */
-uint64_t rootmap_audit(const uint8_t *file, size_t file_len, uint32_t *start, size_t start_len,
-                       uint32_t *part, size_t part_len, uint32_t *owner, size_t owner_len,
+uint64_t rootmap_audit(const uint8_t *file, size_t file_len, uint64_t *start, size_t start_len,
+                       uint64_t *part, size_t part_len, uint64_t *owner, size_t owner_len,
                        uint64_t *place, uint64_t *count);
 
 /*

@@ -1,11 +1,15 @@
 //! Inputs for the tests, valid and damaged. A seed gives the same inputs in every run.
 
 use crate::model::key::NewKey;
+use crate::model::width;
+use fields::low_bytes;
 
 pub mod faults;
+pub mod fields;
 pub mod files;
 pub mod gaps;
 pub mod infos;
+pub mod mixes;
 pub mod nested;
 pub mod shapes;
 
@@ -43,13 +47,18 @@ impl Rng {
         items[self.below(items.len())]
     }
 
+    /// Any number of `width` bytes, small ones as often as great ones.
+    pub fn offset(&mut self, width: usize) -> u64 {
+        self.u64() >> (64 - 8 * width + self.below(8 * width))
+    }
+
     pub fn bytes(&mut self, len: usize) -> Vec<u8> {
         (0..len).map(|_| self.u64() as u8).collect()
     }
 }
 
-/// A key header to lay down as it stands, well formed or not. A string of 255 bytes gets the length
-/// byte 255.
+/// A key header to lay down as it stands, well formed or not. Of an offset as much is laid down as the version has
+/// bytes for, and a string of 255 bytes gets the length byte 255.
 #[derive(Clone, Debug)]
 pub struct RawKey {
     pub nbytes: u32,
@@ -58,15 +67,20 @@ pub struct RawKey {
     pub datime: u32,
     pub keylen: u16,
     pub cycle: u16,
-    pub seek_key: u32,
-    pub seek_pdir: u32,
+    pub seek_key: u64,
+    pub seek_pdir: u64,
     pub strings: [Vec<u8>; 3],
 }
 
 impl RawKey {
+    /// The bytes of each of its offsets.
+    pub fn width(&self) -> usize {
+        width::of(self.version.into())
+    }
+
     /// What the header takes.
     pub fn sum(&self) -> usize {
-        self.strings.iter().fold(26, |sum, string| sum + 1 + string.len())
+        self.strings.iter().fold(18 + 2 * self.width(), |sum, string| sum + 1 + string.len())
     }
 
     pub fn header(&self) -> Vec<u8> {
@@ -77,8 +91,9 @@ impl RawKey {
         bytes.extend(self.datime.to_be_bytes());
         bytes.extend(self.keylen.to_be_bytes());
         bytes.extend(self.cycle.to_be_bytes());
-        bytes.extend(self.seek_key.to_be_bytes());
-        bytes.extend(self.seek_pdir.to_be_bytes());
+        for offset in [self.seek_key, self.seek_pdir] {
+            bytes.extend(low_bytes(offset, self.width()));
+        }
         for string in &self.strings {
             bytes.push(string.len() as u8);
             bytes.extend(string);
@@ -103,8 +118,8 @@ impl RawKey {
             objlen: self.objlen,
             datime: self.datime,
             cycle: i32::from(self.cycle as i16),
-            seek_key: self.seek_key.into(),
-            seek_pdir: self.seek_pdir.into(),
+            seek_key: self.seek_key,
+            seek_pdir: self.seek_pdir,
             class,
             name,
             title,
@@ -123,16 +138,22 @@ fn string_length(rng: &mut Rng) -> usize {
 }
 
 /// A key of a plain record at `at`, with strings of these lengths and `data` bytes of data.
-pub fn plain_key_of(rng: &mut Rng, at: u32, lengths: [usize; 3], data: usize) -> RawKey {
+pub fn plain_key_of(rng: &mut Rng, at: u64, lengths: [usize; 3], data: usize) -> RawKey {
+    let version = 1 + rng.below(width::MOST as usize) as u16;
+    versioned_key(rng, version, at, lengths, data)
+}
+
+/// The same of a version.
+pub fn versioned_key(rng: &mut Rng, version: u16, at: u64, lengths: [usize; 3], data: usize) -> RawKey {
     let mut key = RawKey {
         nbytes: 0,
-        version: 1 + rng.below(1000) as u16,
+        version,
         objlen: rng.u32() >> 1,
         datime: rng.u32(),
         keylen: 0,
         cycle: rng.u64() as u16,
         seek_key: at,
-        seek_pdir: rng.u32(),
+        seek_pdir: rng.offset(width::of(version.into())),
         strings: lengths.map(|len| rng.bytes(len)),
     };
     key.keylen = key.sum() as u16;
@@ -141,14 +162,14 @@ pub fn plain_key_of(rng: &mut Rng, at: u32, lengths: [usize; 3], data: usize) ->
 }
 
 /// A key of a plain record at `at`.
-pub fn plain_key(rng: &mut Rng, at: u32) -> RawKey {
+pub fn plain_key(rng: &mut Rng, at: u64) -> RawKey {
     let lengths = [0; 3].map(|_| string_length(rng));
     let data = rng.below(80);
     plain_key_of(rng, at, lengths, data)
 }
 
 /// A key of a record at `at` whose KeyLen is above its sum, as a basket's is.
-pub fn basket_key(rng: &mut Rng, at: u32) -> RawKey {
+pub fn basket_key(rng: &mut Rng, at: u64) -> RawKey {
     let mut key = plain_key(rng, at);
     let more = 1 + rng.below(24);
     key.keylen += more as u16;
@@ -175,8 +196,8 @@ pub fn chain(rng: &mut Rng, pieces: usize) -> (Vec<u8>, Vec<usize>) {
                 let size = 4 + rng.below(40);
                 gap(rng, size)
             }
-            1 => basket_key(rng, at as u32).record(rng),
-            _ => plain_key(rng, at as u32).record(rng),
+            1 => basket_key(rng, at as u64).record(rng),
+            _ => plain_key(rng, at as u64).record(rng),
         };
         file.extend(piece);
     }
@@ -185,13 +206,13 @@ pub fn chain(rng: &mut Rng, pieces: usize) -> (Vec<u8>, Vec<usize>) {
 
 /// Damages a file near the header at `at`: a byte, a number, its end, or a shift of what follows.
 pub fn damage(rng: &mut Rng, file: &mut Vec<u8>, at: usize) {
-    let header = at..file.len().min(at + 60);
+    let header = at..file.len().min(at + 68);
     let place = header.start + rng.below(header.len());
     match rng.below(8) {
         0..=2 => file[place] = rng.u64() as u8,
         3 => file[place] ^= 1 << rng.below(8),
         4 => {
-            let near = rng.pick(&[0u32, 1, 4, 29, 255, 1000, 65535, 0x7fff_ffff, 0x8000_0000, u32::MAX]);
+            let near = rng.pick(&[0u32, 1, 4, 29, 37, 255, 1000, 2000, 65535, 0x7fff_ffff, 0x8000_0000, u32::MAX]);
             let number = near.wrapping_add(rng.below(3) as u32).wrapping_sub(1).to_be_bytes();
             let fits = number.len().min(file.len() - place);
             file[place..place + fits].copy_from_slice(&number[..fits]);
@@ -212,45 +233,104 @@ passed 5
 309 55 free 0
 ";
 
+/// The same of its wide form.
+pub const WIDE_ROOT_LIST: &str = "\
+passed 5
+100 88 head 0
+188 58 listed 100
+246 95 keys 100
+341 12 gap 0
+353 79 free 0
+";
+
 /// The project's small file: its head, one object, its keys list, a gap of 12 bytes and its free list.
 pub fn one_root() -> Vec<u8> {
-    let datime = 1_960_757_165u32;
-    let key = |at: u32, nbytes: u32, seek_pdir: u32, class: &str, name: &str| {
-        let strings = [class, name, ""].map(|string| string.as_bytes().to_vec());
-        let sum = 29 + class.len() + name.len();
-        let objlen = nbytes - sum as u32;
-        RawKey { nbytes, version: 4, objlen, datime, keylen: sum as u16, cycle: 1, seek_key: at, seek_pdir, strings }
-            .header()
-    };
-    let numbers = |numbers: &[u32]| numbers.iter().flat_map(|number| number.to_be_bytes()).collect::<Vec<_>>();
-    let segment = |first: u32, last: u32| [&[0, 1], numbers(&[first, last]).as_slice()].concat();
+    Small { w: 4, versions: [62400, 4, 5, 1], starts: [168, 218, 297, 309, 364], last: 2_000_000_000 }.bytes()
+}
 
-    let x = key(168, 50, 100, "TObjString", "x");
-    let mut file = b"root".to_vec();
-    // Version, BEGIN, END, SeekFree, NbytesFree, nfree, NbytesName
-    file.extend(numbers(&[62400, 100, 364, 309, 55, 2, 38]));
-    // Units, Compress, SeekInfo, NbytesInfo
-    file.push(4);
-    file.extend(numbers(&[1, 0, 0]));
-    file.resize(100, 0);
-    // The head: its name and title, and the directory header.
-    file.extend(key(100, 68, 0, "TFile", "a"));
-    file.extend(b"\x01a\x00\x00\x05");
-    // Two dates, NbytesKeys, NbytesName, SeekDir, SeekParent, SeekKeys
-    file.extend(numbers(&[datime, datime, 79, 38, 100, 0, 218]));
-    // The object "x".
-    file.extend(&x);
-    file.extend([7; 10]);
-    // The keys list.
-    file.extend(key(218, 79, 100, "TFile", "a"));
-    file.extend(numbers(&[1]));
-    file.extend(&x);
-    // The gap.
-    file.extend((-12i32).to_be_bytes());
-    file.extend([0; 8]);
-    // The free list.
-    file.extend(key(309, 55, 100, "TFile", "a"));
-    file.extend(segment(297, 308));
-    file.extend(segment(364, 2_000_000_000));
-    file
+/// The same with eight-byte offsets in the file header, the keys, the directory header and the segments.
+pub fn wide_root() -> Vec<u8> {
+    Small { w: 8, versions: [1_062_400, 1004, 1005, 1001], starts: [188, 246, 341, 353, 432], last: 6_000_000_000 }
+        .bytes()
+}
+
+const DATIME: u32 = 1_960_757_165;
+
+/// A form of the small file.
+struct Small {
+    /// The bytes of an offset.
+    w: usize,
+    /// Of the file, a key, the directory header and a segment.
+    versions: [u32; 4],
+    /// Where "x", the keys list, the gap and the free list stand, and END.
+    starts: [u64; 5],
+    /// Of the final segment.
+    last: u64,
+}
+
+impl Small {
+    fn key(&self, at: u64, end: u64, seek_pdir: u64, class: &str, name: &str) -> Vec<u8> {
+        let strings = [class, name, ""].map(|string| string.as_bytes().to_vec());
+        let keylen = (18 + 2 * self.w + 3 + class.len() + name.len()) as u16;
+        let (nbytes, version) = ((end - at) as u32, self.versions[1] as u16);
+        let objlen = nbytes - u32::from(keylen);
+        RawKey { nbytes, version, objlen, datime: DATIME, keylen, cycle: 1, seek_key: at, seek_pdir, strings }.header()
+    }
+
+    fn offsets(&self, offsets: &[u64]) -> Vec<u8> {
+        offsets.iter().flat_map(|&offset| low_bytes(offset, self.w)).collect()
+    }
+
+    fn segment(&self, first: u64, last: u64) -> Vec<u8> {
+        [low_bytes(self.versions[3].into(), 2), self.offsets(&[first, last])].concat()
+    }
+
+    /// Its header, 100 bytes. No info record.
+    fn header(&self) -> Vec<u8> {
+        let [_, _, _, free, end] = self.starts;
+        let mut file = b"root".to_vec();
+        file.extend(numbers(&[self.versions[0], 100]));
+        file.extend(self.offsets(&[end, free]));
+        file.extend(numbers(&[(end - free) as u32, 2, self.named()]));
+        file.push(self.w as u8);
+        file.extend(numbers(&[1]));
+        file.resize(100, 0);
+        file
+    }
+
+    /// NbytesName.
+    fn named(&self) -> u32 {
+        (18 + 2 * self.w + 3 + 6 + 3) as u32
+    }
+
+    fn bytes(&self) -> Vec<u8> {
+        let [x, keys, gap, free, end] = self.starts;
+        let key_of_x = self.key(x, keys, 100, "TObjString", "x");
+        let mut file = self.header();
+        // The head: its name and title, and the directory header.
+        file.extend(self.key(100, x, 0, "TFile", "a"));
+        file.extend(b"\x01a\x00");
+        file.extend(low_bytes(self.versions[2].into(), 2));
+        file.extend(numbers(&[DATIME, DATIME, (gap - keys) as u32, self.named()]));
+        file.extend(self.offsets(&[100, 0, keys]));
+        // The object "x".
+        file.extend(&key_of_x);
+        file.extend([7; 10]);
+        // The keys list.
+        file.extend(self.key(keys, gap, 100, "TFile", "a"));
+        file.extend(numbers(&[1]));
+        file.extend(&key_of_x);
+        // The gap.
+        file.extend((-12i32).to_be_bytes());
+        file.extend([0; 8]);
+        // The free list.
+        file.extend(self.key(free, end, 100, "TFile", "a"));
+        file.extend(self.segment(gap, free - 1));
+        file.extend(self.segment(end, self.last));
+        file
+    }
+}
+
+fn numbers(numbers: &[u32]) -> Vec<u8> {
+    numbers.iter().flat_map(|number| number.to_be_bytes()).collect()
 }

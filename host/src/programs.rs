@@ -22,7 +22,7 @@ impl Program {
     }
 
     /// Audits a file. The second program has rows of its own, the others write the tables start, part and owner.
-    pub fn audit(self, file: &[u8], tables: [&mut [u32]; 3]) -> Answer {
+    pub fn audit(self, file: &[u8], tables: [&mut [u64]; 3]) -> Answer {
         match self {
             Program::Library => ffi::audit::answer(file, tables),
             Program::Second => black_box(model::audit::audit(file, tables[0].len())).0,

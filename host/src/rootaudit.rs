@@ -13,7 +13,6 @@
 //!
 //! The audit is a parameter, so that the tests can put another in its place.
 
-use crate::ffi;
 use crate::ffi::Answer;
 use finding::Finding;
 use options::{Options, Request};
@@ -46,14 +45,10 @@ pub const REFUSED: u8 = 1;
 pub const FAILED: u8 = 2;
 
 /// An audit of a whole file into three tables of one length: start, part and owner.
-pub type Audit<'a> = &'a dyn Fn(&[u8], [&mut [u32]; 3]) -> Answer;
+pub type Audit<'a> = &'a dyn Fn(&[u8], [&mut [u64]; 3]) -> Answer;
 
 /// The audit of the proved library.
-pub fn library(file: &[u8], tables: [&mut [u32]; 3]) -> Answer {
-    let (mut place, mut count) = (0, 0);
-    let number = ffi::audit::audit(file, tables, &mut place, &mut count);
-    Answer { number, place, count }
-}
+pub use crate::ffi::audit::answer as library;
 
 /// Where the command writes. `terminal` is standard error, if that is a terminal.
 pub struct Console<'a> {

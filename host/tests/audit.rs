@@ -1,19 +1,32 @@
-//! The audit of the project's small file, and of every file near it.
+//! The audit of the project's small file, narrow and wide, and of every file near it.
 
 use kirovadzun_host::compare::audit::{audit, audit_by_rules};
 use kirovadzun_host::compare::Tally;
 use kirovadzun_host::ffi::{part, Answer};
-use kirovadzun_host::gen::files::one_root_plan;
-use kirovadzun_host::gen::{one_root, Rng, ONE_ROOT_LIST};
+use kirovadzun_host::gen::fields::{low_bytes, HeaderAt};
+use kirovadzun_host::gen::files::{one_root_plan, wide_root_plan};
+use kirovadzun_host::gen::{one_root, wide_root, Rng, ONE_ROOT_LIST, WIDE_ROOT_LIST};
 use kirovadzun_host::model::audit::Row;
 
-const ROWS: [Row; 5] = [
-    Row { start: 100, part: part::HEAD, owner: 0 },
-    Row { start: 168, part: part::LISTED, owner: 100 },
-    Row { start: 218, part: part::KEYS, owner: 100 },
-    Row { start: 297, part: part::GAP, owner: 0 },
-    Row { start: 309, part: part::FREE, owner: 0 },
-];
+/// Its rows, if its pieces stand there.
+fn rows_at([head, x, keys, gap, free]: [u64; 5]) -> Vec<Row> {
+    let row = |start, part, owner| Row { start, part, owner };
+    vec![
+        row(head, part::HEAD, 0),
+        row(x, part::LISTED, 100),
+        row(keys, part::KEYS, 100),
+        row(gap, part::GAP, 0),
+        row(free, part::FREE, 0),
+    ]
+}
+
+/// Both forms of the file.
+fn forms() -> [Vec<u8>; 2] {
+    [one_root(), wide_root()]
+}
+
+/// Where the pieces of each stand.
+const STARTS: [[u64; 5]; 2] = [[100, 168, 218, 297, 309], [100, 188, 246, 341, 353]];
 
 fn answer(number: u64, place: u64, count: u64) -> Answer {
     Answer { number, place, count }
@@ -21,14 +34,12 @@ fn answer(number: u64, place: u64, count: u64) -> Answer {
 
 /// Sets END to the length.
 fn close(file: &mut [u8]) {
-    let end = file.len() as u32;
-    if let Some(bytes) = file.get_mut(12..16) {
-        bytes.copy_from_slice(&end.to_be_bytes());
-    }
+    let width = if HeaderAt::VERSION.get(file) < 1_000_000 { 4 } else { 8 };
+    HeaderAt { width }.end().put(file, file.len() as u64);
 }
 
 /// The rows as the list program prints them.
-fn printed(rows: &[Row], end: u32) -> String {
+fn printed(rows: &[Row], end: u64) -> String {
     let mut text = format!("passed {}\n", rows.len());
     for (i, row) in rows.iter().enumerate() {
         let next = rows.get(i + 1).map_or(end, |next| next.start);
@@ -40,10 +51,13 @@ fn printed(rows: &[Row], end: u32) -> String {
 #[test]
 fn passes() {
     let mut tally = Tally::new("audit, one.root");
-    let (got, rows) = audit_by_rules(&mut tally, &one_root());
-    assert_eq!((got, &rows[..]), (answer(0, 0, 5), &ROWS[..]));
-    assert_eq!(printed(&rows, 364), ONE_ROOT_LIST);
-    tally.finish(1, &[0]);
+    for (nth, (file, list)) in forms().into_iter().zip([ONE_ROOT_LIST, WIDE_ROOT_LIST]).enumerate() {
+        let (got, rows) = audit_by_rules(&mut tally, &file);
+        assert_eq!(printed(&rows, file.len() as u64), list);
+        assert_eq!((got, rows), (answer(0, 0, 5), rows_at(STARTS[nth])));
+    }
+    assert!(wide_root_plan().build().bytes == wide_root(), "the plan of the wide form gives other bytes");
+    tally.finish(2, &[0]);
 }
 
 #[test]
@@ -85,23 +99,24 @@ fn examples() {
 #[test]
 fn every_byte() {
     let mut tally = Tally::new("audit, each byte of one.root changed to every value");
-    let file = one_root();
-    for at in 0..file.len() {
-        for value in 0..=255 {
-            let mut changed = file.clone();
-            changed[at] = value;
-            audit_by_rules(&mut tally, &changed);
+    for file in forms() {
+        for at in 0..file.len() {
+            for value in 0..=255 {
+                let mut changed = file.clone();
+                changed[at] = value;
+                audit_by_rules(&mut tally, &changed);
+            }
         }
     }
-    tally.finish(90_000, &[0, 2, 3, 4, 5, 6, 8, 9, 10, 12, 13]);
+    tally.finish(200_000, &[0, 2, 3, 4, 5, 6, 8, 9, 10, 12, 13]);
 }
 
 #[test]
 fn two_bytes() {
     let mut tally = Tally::new("audit, two bytes of one.root changed");
     let mut rng = Rng::new(110);
-    let file = one_root();
-    for _ in 0..40_000 {
+    for nth in 0..80_000 {
+        let file = &forms()[nth % 2];
         let mut changed = file.clone();
         for _ in 0..2 {
             let at = rng.below(file.len());
@@ -111,66 +126,77 @@ fn two_bytes() {
         }
         audit_by_rules(&mut tally, &changed);
     }
-    tally.finish(40_000, &[0, 2, 3, 4, 5, 6, 8, 9, 10, 12, 13]);
+    tally.finish(80_000, &[0, 2, 3, 4, 5, 6, 8, 9, 10, 12, 13]);
 }
 
-/// Each four-byte number of the file becomes a place or size of it, or a number near one.
+/// Each number of four bytes, and of eight, becomes a place or size of the file, or a number near one.
 #[test]
 fn every_number() {
     let mut tally = Tally::new("audit, each number of one.root changed");
-    let file = one_root();
-    let numbers = [0, 1, 2, 4, 12, 35, 38, 50, 55, 68, 79, 100, 168, 218, 297, 308, 309, 364, 2_000_000_000, 1 << 31];
-    for at in 0..=file.len() - 4 {
-        for number in numbers.iter().flat_map(|&number: &u32| [number, number.wrapping_sub(1), number.wrapping_neg()]) {
-            let mut changed = file.clone();
-            changed[at..at + 4].copy_from_slice(&number.to_be_bytes());
-            audit_by_rules(&mut tally, &changed);
+    let sizes = [0, 1, 2, 4, 12, 35, 38, 43, 46, 50, 55, 58, 68, 79, 88, 95];
+    let ends = [308, 352, 364, 432, 1000, 2000, 2_000_000_000, 1 << 31, 1 << 32, 1 << 63];
+    let numbers: Vec<u64> = sizes.into_iter().chain(STARTS.concat()).chain(ends).collect();
+    let near = |number: u64| [number, number.wrapping_sub(1), number.wrapping_neg()];
+    for (file, width) in forms().iter().flat_map(|file| [(file, 4), (file, 8)]) {
+        for at in 0..=file.len() - width {
+            for number in numbers.iter().flat_map(|&number| near(number)) {
+                let mut changed = file.clone();
+                changed[at..at + width].copy_from_slice(&low_bytes(number, width));
+                audit_by_rules(&mut tally, &changed);
+            }
         }
     }
-    tally.finish(20_000, &[0, 2, 3, 4, 5, 6, 8, 9, 10, 12, 13]);
+    tally.finish(150_000, &[0, 2, 3, 4, 5, 6, 8, 9, 10, 12, 13]);
 }
 
 #[test]
 fn every_length() {
     let mut tally = Tally::new("audit, one.root cut or continued");
-    let mut rng = Rng::new(111);
-    let file = one_root();
-    for len in 0..=file.len() {
-        let mut cut = file[..len].to_vec();
-        audit_by_rules(&mut tally, &cut);
-        close(&mut cut);
-        audit_by_rules(&mut tally, &cut);
-    }
-    for more in 1..=80 {
-        for fill in 0..4 {
-            let mut longer = file.clone();
-            match fill {
-                0 => longer.extend(vec![0; more]),
-                1 => longer.extend(rng.bytes(more)),
-                2 => longer.extend(file[168..168 + more.min(50)].to_vec()),
-                _ => longer.extend([&(-(more as i32)).to_be_bytes()[..], &vec![0; more]].concat()),
-            }
-            audit_by_rules(&mut tally, &longer);
-            close(&mut longer);
-            audit_by_rules(&mut tally, &longer);
+    for file in forms() {
+        for len in 0..=file.len() {
+            let mut cut = file[..len].to_vec();
+            audit_by_rules(&mut tally, &cut);
+            close(&mut cut);
+            audit_by_rules(&mut tally, &cut);
+        }
+        for more in 1..=80 {
+            continued(&mut tally, &file, more);
         }
     }
-    tally.finish(1_300, &[0, 1, 4, 5, 6, 8, 9]);
+    tally.finish(2_800, &[0, 1, 4, 5, 6, 8, 9]);
+}
+
+/// The file and so many bytes more: zeros, any, a piece of the file, a gap.
+fn continued(tally: &mut Tally, file: &[u8], more: usize) {
+    let fills = [
+        vec![0; more],
+        Rng::new(more as u64).bytes(more),
+        file[168..168 + more.min(50)].to_vec(),
+        [&(-(more as i32)).to_be_bytes()[..], &vec![0; more]].concat(),
+    ];
+    for fill in fills {
+        let mut longer = [file, &fill].concat();
+        audit_by_rules(tally, &longer);
+        close(&mut longer);
+        audit_by_rules(tally, &longer);
+    }
 }
 
 #[test]
 fn every_room() {
     let mut tally = Tally::new("audit, one.root with tables of 0 to 7 rows each");
-    let file = one_root();
-    let mut damaged = file.clone();
-    damaged[231 + 35] ^= 1;
-    for lengths in (0..8).flat_map(|a| (0..8).flat_map(move |b| (0..8).map(move |c| [a, b, c]))) {
-        let enough = lengths.iter().all(|&len| len >= 5);
-        let (got, rows) = audit(&mut tally, &file, lengths);
-        let expected = if enough { (answer(0, 0, 5), ROWS.to_vec()) } else { (answer(7, 0, 5), Vec::new()) };
-        assert_eq!((got, rows), expected, "{lengths:?}");
-        let (got, _) = audit(&mut tally, &damaged, lengths);
-        assert_eq!(got.number, if enough { 13 } else { 7 }, "{lengths:?}");
+    for (nth, file) in forms().into_iter().enumerate() {
+        // The class in the copy.
+        let mut damaged = file.clone();
+        damaged[[266, 337][nth]] ^= 1;
+        for lengths in (0..8).flat_map(|a| (0..8).flat_map(move |b| (0..8).map(move |c| [a, b, c]))) {
+            let enough = lengths.iter().all(|&len| len >= 5);
+            let (got, rows) = audit(&mut tally, &file, lengths);
+            let expected = if enough { (answer(0, 0, 5), rows_at(STARTS[nth])) } else { (answer(7, 0, 5), Vec::new()) };
+            assert_eq!((got, rows), expected, "{lengths:?}");
+            let (got, _) = audit(&mut tally, &damaged, lengths);
+            assert_eq!(got.number, if enough { 13 } else { 7 }, "{lengths:?}");
+        }
     }
-    tally.finish(1_000, &[0, 7, 13]);
+    tally.finish(2_000, &[0, 7, 13]);
 }

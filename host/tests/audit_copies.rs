@@ -20,7 +20,7 @@ fn whole_copies_of_baskets() {
         let keylen = built.sites[object].keylen;
         assert_eq!(built.bytes[start..start + keylen], built.bytes[copy..copy + keylen]);
         let (answer, _) = audit_by_rules(&mut tally, &built.bytes);
-        let refused = Answer::refusal(number::KEYS, built.start(list).into());
+        let refused = Answer::refusal(number::KEYS, built.start(list));
         assert_eq!(answer, if more == 0 { Answer::success(5) } else { refused }, "{more} bytes above the sum");
     }
     tally.finish(40, &[number::SUCCESS, number::KEYS]);

@@ -4,7 +4,7 @@ use kirovadzun_host::compare::audit::{audit, audit_by_rules, audit_with_room};
 use kirovadzun_host::compare::Tally;
 use kirovadzun_host::ffi::Answer;
 use kirovadzun_host::gen::faults::{self, Fault, Target};
-use kirovadzun_host::gen::files::{plan, Built, LARGE, RICH};
+use kirovadzun_host::gen::files::{plan, Built, Plan, LARGE, RICH};
 use kirovadzun_host::gen::Rng;
 
 /// The numbers that the audit can answer with room enough.
@@ -19,12 +19,21 @@ fn expect(answer: Answer, pieces: usize, fault: &Fault, built: &Built, target: &
     assert_eq!(answer, expected, "{} {target:?}", fault.name);
 }
 
+/// A plan with narrow offsets throughout, with wide ones, and as it is, with some of each.
+fn in_turn(round: usize, plan: Plan) -> Plan {
+    match round % 3 {
+        0 => plan.of_width(false),
+        1 => plan.of_width(true),
+        _ => plan,
+    }
+}
+
 #[test]
 fn each_rule_alone() {
     let mut tally = Tally::new("audit, one rule broken");
     let mut rng = Rng::new(100);
-    for _ in 0..150 {
-        let plan = plan(&mut rng, RICH);
+    for round in 0..150 {
+        let plan = in_turn(round, plan(&mut rng, RICH));
         for fault in faults::all() {
             let target = Target::pick(&mut rng, &plan);
             let built = faults::build(&mut rng, &plan, &[(&fault, target)]);
@@ -39,14 +48,16 @@ fn each_rule_alone() {
 fn each_rule_alone_in_large_files() {
     let mut tally = Tally::new("audit, one rule broken somewhere in a large file");
     let mut rng = Rng::new(103);
-    let plan = plan(&mut rng, LARGE);
-    for fault in faults::all() {
-        let target = Target::pick(&mut rng, &plan);
-        let built = faults::build(&mut rng, &plan, &[(&fault, target)]);
-        let (answer, rows) = audit_with_room(&mut tally, &built.bytes, 0);
-        expect(answer, rows.len(), &fault, &built, &target);
+    for round in 0..3 {
+        let plan = in_turn(round, plan(&mut rng, LARGE));
+        for fault in faults::all() {
+            let target = Target::pick(&mut rng, &plan);
+            let built = faults::build(&mut rng, &plan, &[(&fault, target)]);
+            let (answer, rows) = audit_with_room(&mut tally, &built.bytes, 0);
+            expect(answer, rows.len(), &fault, &built, &target);
+        }
     }
-    tally.finish(100, &NUMBERS);
+    tally.finish(400, &NUMBERS);
 }
 
 /// The number that two faults bring together, if it is the lower one wherever they stand. Faults in
@@ -63,13 +74,13 @@ fn any_two_rules() {
     let mut tally = Tally::new("audit, two rules broken");
     let mut rng = Rng::new(101);
     let faults = faults::all();
-    for round in 0..3 {
+    for round in 0..6 {
         for one in &faults {
             for two in &faults {
-                let plan = plan(&mut rng, RICH);
+                let plan = in_turn(round, plan(&mut rng, RICH));
                 let first = Target::pick(&mut rng, &plan);
                 // The same pieces, or others.
-                let second = if round == 0 { first } else { Target::pick(&mut rng, &plan) };
+                let second = if round < 3 { first } else { Target::pick(&mut rng, &plan) };
                 let built = faults::build(&mut rng, &plan, &[(one, first), (two, second)]);
                 let (answer, _) = audit_by_rules(&mut tally, &built.bytes);
                 if let Some(number) = lower_number(one, two) {
@@ -78,7 +89,7 @@ fn any_two_rules() {
             }
         }
     }
-    tally.finish(60_000, &NUMBERS);
+    tally.finish(120_000, &NUMBERS);
 }
 
 #[test]

@@ -6,7 +6,8 @@ use kirovadzun_host::compare::audit::{audit, audit_by_rules, audit_with_room};
 use kirovadzun_host::compare::Tally;
 use kirovadzun_host::ffi::Answer;
 use kirovadzun_host::gen::faults::{self, Target};
-use kirovadzun_host::gen::files::{deep_plan, plan, Built, Plan, LARGE, RICH, SMALL};
+use kirovadzun_host::gen::fields::{Field, HeaderAt, KeyAt};
+use kirovadzun_host::gen::files::{deep_plan, plan, Built, Plan, Site, LARGE, RICH, SMALL};
 use kirovadzun_host::gen::{damage, nested, Rng};
 use kirovadzun_host::model::audit::pieces;
 use std::fs;
@@ -72,12 +73,29 @@ fn deep_files() {
             let (answer, rows) = audit_with_room(&mut tally, &built.bytes, 0);
             assert_eq!(answer, Answer::success(plan.order.len() as u64));
             assert_eq!(rows, plan.rows(&built));
-            built.add32(built.sites[depth].directory + 22, 1);
+            built.add(built.sites[depth].directory().seek_parent(), 1);
             let (answer, _) = audit_with_room(&mut tally, &built.bytes, 0);
             assert_eq!(answer, Answer::refusal(11, built.sites[depth].start as u64));
         }
     }
     tally.finish(20, &[0, 11]);
+}
+
+/// The numbers that say where something stands or how long it is: in a piece and the copies in it, and in the header.
+fn fields(rng: &mut Rng, header: HeaderAt, site: &Site) -> Vec<Field> {
+    let (key, directory) = (site.key(), site.directory());
+    let mut fields = vec![key.nbytes(), key.objlen(), key.seek_key(), key.seek_pdir(), key.version()];
+    fields.extend([directory.nbytes_keys(), directory.nbytes_name(), directory.version()]);
+    fields.extend([directory.seek_dir(), directory.seek_parent(), directory.seek_keys()]);
+    for copy in site.copies.iter().map(|&at| KeyAt { at, width: rng.pick(&[4, 8]) }) {
+        fields.extend([copy.nbytes(), copy.seek_key(), copy.seek_pdir(), copy.version()]);
+    }
+    for segment in &site.segments {
+        fields.extend([segment.version(), segment.first(), segment.last()]);
+    }
+    fields.extend([header.seek_free(), header.nbytes_free(), header.nfree(), header.nbytes_name()]);
+    fields.extend([header.seek_info(), header.nbytes_info()]);
+    fields
 }
 
 /// One change: at any byte, near a header, or a number that says where something stands.
@@ -92,19 +110,14 @@ fn damage_plan(rng: &mut Rng, plan: &Plan, built: &mut Built) {
         }
         1 if site.start < len => damage(rng, &mut built.bytes, site.start),
         2 => {
-            let at = rng.below(48);
+            let at = rng.below(58);
             built.bytes[at] ^= 1 << rng.below(8);
         }
         _ => {
-            let copies = site.copies.iter().flat_map(|copy| [copy + 18, copy + 22, *copy]);
-            let fields = [0, 6, 18, 22].map(|offset| site.start + offset).into_iter();
-            let header = [10, 14, 18, 22, 26].map(|offset| site.directory + offset).into_iter();
-            let places: Vec<usize> = copies.chain(fields).chain(header).chain([16, 20, 24, 28, 37, 41]).collect();
-            let at = rng.pick(&places);
-            let number = rng.pick(&[other.start, other.size, other.start + 1, other.size - 1, 0, len]) as u32;
-            if at + 4 <= len {
-                built.put32(at, number);
-            }
+            let fields = fields(rng, built.header, site);
+            let field = rng.pick(&fields);
+            let number = rng.pick(&[other.start, other.size, other.start + 1, other.size - 1, 0, len]) as u64;
+            built.put(field, number);
         }
     }
 }
@@ -123,8 +136,7 @@ fn damaged_files() {
             }
         }
         if rng.once_in(2) && built.bytes.len() >= 100 {
-            let end = built.bytes.len() as u32;
-            built.put32(12, end);
+            built.close();
         }
         audit_by_rules(&mut tally, &built.bytes);
     }

@@ -3,7 +3,8 @@
 use kirovadzun_host::compare::audit::{audit, audit_by_rules};
 use kirovadzun_host::compare::Tally;
 use kirovadzun_host::ffi::{number, part, Answer};
-use kirovadzun_host::gen::gaps::{put32, Gapped};
+use kirovadzun_host::gen::fields::Field;
+use kirovadzun_host::gen::gaps::{Form, Gapped};
 use kirovadzun_host::gen::Rng;
 
 /// Sizes of gaps before the free list, and after it. None, one, adjacent ones, those of 4 bytes, one at the end.
@@ -24,6 +25,14 @@ const SIZES: [(&[usize], &[usize]); 14] = [
     (&[1 << 20], &[1 << 20]),
 ];
 
+/// The forms of the file, with narrow and with wide offsets.
+const FORMS: [Form; 2] = [Gapped::new, Gapped::wide];
+
+/// Every size in every form.
+fn forms_and_sizes() -> impl Iterator<Item = (usize, &'static [usize], &'static [usize])> {
+    SIZES.into_iter().flat_map(|(before, after)| [0, 1].map(|form| (form, before, after)))
+}
+
 fn refused(file: &Gapped) -> Answer {
     Answer::refusal(number::FREE, file.seek_free as u64)
 }
@@ -31,53 +40,60 @@ fn refused(file: &Gapped) -> Answer {
 #[test]
 fn as_root_writes_them() {
     let mut tally = Tally::new("audit, gaps as ROOT lists them");
-    for (before, after) in SIZES {
-        let file = Gapped::new(before, after);
+    for (form, before, after) in forms_and_sizes() {
+        let file = FORMS[form](before, after);
         let (answer, rows) = audit_by_rules(&mut tally, &file.bytes());
-        assert_eq!(answer, Answer::success(4 + file.gaps.len() as u64), "{before:?} {after:?}");
+        assert_eq!(answer, Answer::success(4 + file.gaps.len() as u64), "{form} {before:?} {after:?}");
         let gaps: Vec<usize> = rows.iter().filter(|row| row.part == part::GAP).map(|row| row.start as usize).collect();
         assert_eq!(gaps, file.gaps.iter().map(|gap| gap[0]).collect::<Vec<_>>());
     }
-    tally.finish(14, &[0]);
+    tally.finish(28, &[0]);
 }
 
-/// Each number of each segment, the final one too, is changed. A gap's last and 1 is document 004's.
+/// Each number of each segment, the final one too, is changed. A gap's last and 1 is document 004's. In the wide form
+/// the final one ends anywhere behind END.
 #[test]
 fn every_other_first_and_last() {
     let mut tally = Tally::new("audit, firsts and lasts near those of gaps");
-    for (before, after) in SIZES {
-        let file = Gapped::new(before, after);
+    for (form, before, after) in forms_and_sizes() {
+        let file = FORMS[form](before, after);
+        let final_last = file.segment(file.gaps.len())[1];
         for field in (0..=file.gaps.len()).flat_map(|nth| file.segment(nth)) {
-            for by in [1, -1, 2, -2, 4, -4, 12, -12, 1 << 31] {
+            for by in [1, -1, 2, -2, 4, -4, 12, -12, 1 << 31, 1 << 63] {
+                // Half of a narrow number's range would not move it.
+                let by = if field.width == 4 && by == i64::MIN { 1 << 30 } else { by };
                 let mut bytes = file.bytes();
-                let stored = i64::from(u32::from_be_bytes(bytes[field..field + 4].try_into().unwrap()));
-                put32(&mut bytes, field, (stored + by) as usize);
+                field.add(&mut bytes, by);
                 let (answer, _) = audit(&mut tally, &bytes, [64; 3]);
-                assert_eq!(answer, refused(&file), "{before:?} {after:?}: {field} by {by}");
+                let passes = form == 1 && field == final_last;
+                let expected = if passes { Answer::success(4 + file.gaps.len() as u64) } else { refused(&file) };
+                assert_eq!(answer, expected, "{form} {before:?} {after:?}: {field:?} by {by}");
             }
         }
     }
-    tally.finish(1_000, &[number::FREE]);
+    tally.finish(2_000, &[0, number::FREE]);
 }
 
-/// Gaps of these sizes, with these numbers in the first segments.
-fn with_segments(sizes: &[usize], segments: &[[usize; 2]]) -> (Gapped, Vec<u8>) {
-    let file = Gapped::new(sizes, &[]);
+/// The file with these numbers in the first segments.
+fn with_segments(file: &Gapped, segments: &[[usize; 2]]) -> Vec<u8> {
     let mut bytes = file.bytes();
     for (nth, segment) in segments.iter().enumerate() {
         for (field, &number) in file.segment(nth).into_iter().zip(segment) {
-            put32(&mut bytes, field, number);
+            field.put(&mut bytes, number as u64);
         }
     }
-    (file, bytes)
+    bytes
 }
 
 /// Two gaps side by side are two segments: neither one for both, nor one that ends where the next begins.
 #[test]
 fn adjacent_gaps() {
     let mut tally = Tally::new("audit, adjacent gaps");
-    for (a, b) in [(4, 4), (4, 12), (12, 4), (100, 100)] {
-        let [first, next, after] = [297, 297 + a, 297 + a + b];
+    let sizes = [(4, 4), (4, 12), (12, 4), (100, 100)];
+    for (form, (a, b)) in FORMS.into_iter().flat_map(|form| sizes.map(|sizes| (form, sizes))) {
+        let file = form(&[a, b], &[]);
+        let first = file.gaps[0][0];
+        let [next, after] = [first + a, first + a + b];
         let good = [[first, next - 1], [next, after - 1]];
         for (segments, passes) in [
             (good, true),
@@ -90,23 +106,23 @@ fn adjacent_gaps() {
             ([[first, after - 1], good[1]], false),
             ([[first, after - 1], [after, after]], false),
         ] {
-            let (file, bytes) = with_segments(&[a, b], &segments);
+            let bytes = with_segments(&file, &segments);
             let expected = if passes { Answer::success(6) } else { refused(&file) };
             assert_eq!(audit_by_rules(&mut tally, &bytes).0, expected, "{segments:?}");
         }
         // One gap that is listed as two, and two that are listed as one.
         for (listed, sizes) in [(vec![a, b], vec![a + b]), (vec![a + b], vec![a, b])] {
-            let file = Gapped::new(&listed, &[]);
+            let file = form(&listed, &[]);
             let mut bytes = file.bytes();
             let mut at = first;
             for size in sizes {
-                put32(&mut bytes, at, size.wrapping_neg());
+                Field { at, width: 4 }.put(&mut bytes, (size as u64).wrapping_neg());
                 at += size;
             }
             assert_eq!(audit_by_rules(&mut tally, &bytes).0, refused(&file), "{listed:?}");
         }
     }
-    tally.finish(44, &[0, number::FREE]);
+    tally.finish(88, &[0, number::FREE]);
 }
 
 /// Gaps of any sizes, and the same with some of the segments' bytes changed.
@@ -116,13 +132,15 @@ fn any_gaps() {
     let mut rng = Rng::new(0x9a9);
     for _ in 0..4_000 {
         let mut sizes = |most| (0..rng.below(most)).map(|_| 4 + rng.below(40)).collect::<Vec<_>>();
-        let file = Gapped::new(&sizes(5), &sizes(3));
+        let sizes = [sizes(5), sizes(3)];
+        let file = rng.pick(&FORMS)(&sizes[0], &sizes[1]);
         let mut bytes = file.bytes();
         assert_eq!(audit_by_rules(&mut tally, &bytes).0, Answer::success(4 + file.gaps.len() as u64));
         for _ in 0..=rng.below(2) {
             let nth = rng.below(file.gaps.len() + 1);
             let field = rng.pick(&file.segment(nth));
-            bytes[field + 3] = bytes[field + 3].wrapping_add(rng.pick(&[1, 255, 4, 252, 128]));
+            let last = field.at + field.width - 1;
+            bytes[last] = bytes[last].wrapping_add(rng.pick(&[1, 255, 4, 252, 128]));
         }
         audit_by_rules(&mut tally, &bytes);
     }

@@ -4,8 +4,9 @@
 use kirovadzun_host::compare::audit::audit_by_rules;
 use kirovadzun_host::compare::Tally;
 use kirovadzun_host::ffi::Answer;
+use kirovadzun_host::gen::fields::KeyAt;
 use kirovadzun_host::gen::files::{keys, segment_bytes, Built, Item, Plan, Role};
-use kirovadzun_host::gen::{plain_key_of, RawKey, Rng};
+use kirovadzun_host::gen::{versioned_key, RawKey, Rng};
 
 const HEAD: usize = 0;
 const A: usize = 1;
@@ -51,9 +52,14 @@ fn refused(tally: &mut Tally, built: &Built, number: u64, place: usize) {
     assert_eq!(answer, Answer::refusal(number, place as u64));
 }
 
+/// The fields of a copy that do not depend on its width.
+fn copy_at(at: usize) -> KeyAt {
+    KeyAt { at, width: 4 }
+}
+
 /// Spoils SeekDir of a directory.
 fn damage_header(built: &mut Built, dir: usize) {
-    built.add32(built.sites[dir].directory + 18, 1);
+    built.add(built.sites[dir].directory().seek_dir(), 1);
 }
 
 #[test]
@@ -91,7 +97,7 @@ fn header_when_taken() {
     damage_header(&mut built, C);
     // The last copy of the head's list.
     let last = built.sites[LIST].copies[3];
-    built.add32(last + 10, 1);
+    built.add(copy_at(last).datime(), 1);
     refused(&mut tally, &built, 13, last);
 
     let mut plan = file();
@@ -111,22 +117,22 @@ fn copies_in_turn() {
     for (broken, number) in [(2, 14), (0, 12), (1, 12)] {
         let mut built = plan.build();
         let copies = built.sites[LIST].copies.clone();
-        built.put16(copies[broken] + 4, 0);
+        built.put(copy_at(copies[broken]).version(), 0);
         refused(&mut tally, &built, number, if number == 14 { copies[1] } else { built.sites[LIST].start });
     }
     // 13 goes before 14 at one copy.
     let mut built = plan.build();
     let copy = built.sites[LIST].copies[1];
-    built.add32(copy + 10, 1);
+    built.add(copy_at(copy).datime(), 1);
     refused(&mut tally, &built, 13, copy);
     // NKeys too large: every copy there is comes first.
     let mut built = plan.build();
-    built.put32(built.sites[LIST].nkeys, u32::MAX);
+    built.put(built.sites[LIST].nkeys(), u32::MAX.into());
     refused(&mut tally, &built, 14, copy);
     // NKeys too small: the bytes left over come after the copies.
-    built.put32(built.sites[LIST].nkeys, 1);
+    built.put(built.sites[LIST].nkeys(), 1);
     refused(&mut tally, &built, 12, built.sites[LIST].start);
-    built.put32(built.sites[LIST].nkeys, 2);
+    built.put(built.sites[LIST].nkeys(), 2);
     refused(&mut tally, &built, 14, copy);
     tally.finish(7, &[12, 13, 14]);
 }
@@ -138,9 +144,10 @@ fn list_before_copies() {
     let free = 8;
     for (pdir, number) in [(1, 12), (0, 14)] {
         let mut built = file().build();
-        built.put32(built.sites[HEAD].directory + 26, built.sites[free].start as u32);
-        built.put32(built.sites[HEAD].directory + 10, built.sites[free].size as u32);
-        built.add32(built.sites[free].start + 22, pdir);
+        let head = built.sites[HEAD].directory();
+        built.put(head.seek_keys(), built.start(free));
+        built.put(head.nbytes_keys(), built.size(free));
+        built.add(built.sites[free].key().seek_pdir(), pdir);
         refused(&mut tally, &built, number, if number == 14 { 100 } else { built.sites[free].start });
     }
     tally.finish(2, &[12, 14]);
@@ -153,12 +160,12 @@ fn head_is_no_free_list() {
     let mut tally = Tally::new("audit, a head that could be the free list");
     let mut head = RawKey {
         strings: [b"TFile".to_vec(), b"a".to_vec(), vec![]],
-        ..plain_key_of(&mut Rng::new(1), 100, [0; 3], 0)
+        ..versioned_key(&mut Rng::new(1), 4, 100, [0; 3], 0)
     };
     (head.nbytes, head.keylen, head.objlen) = (75, 35, 40);
-    let segments = [[175, 200], [200, 10752], [10752, 25600], [25600, 2_000_000_000]];
+    let segments = [[175, 199], [200, 10751], [10752, 25600], [25601, 2_000_000_000]];
     let mut file = b"root".to_vec();
-    let numbers: [u32; 7] = [62400, 100, 25600, 100, 75, 4, 42];
+    let numbers: [u32; 7] = [62400, 100, 25601, 100, 75, 4, 42];
     file.extend(numbers.map(u32::to_be_bytes).concat());
     file.push(4);
     file.resize(100, 0);
@@ -169,8 +176,8 @@ fn head_is_no_free_list() {
         file.extend(segment_bytes(version, segment));
     }
     for [first, last] in &segments[..3] {
-        file.extend((*first as i32 - *last as i32).to_be_bytes());
-        file.resize(*last as usize, 0);
+        file.extend((*first as i32 - *last as i32 - 1).to_be_bytes());
+        file.resize(*last as usize + 1, 0);
     }
     let directory = 100 + 35 + 7;
     assert_eq!(file[directory + 14..directory + 26], [0, 0, 0, 42, 0, 0, 0, 100, 0, 0, 0, 0]);

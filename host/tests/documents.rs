@@ -5,7 +5,7 @@ mod command;
 use command::{folder, printed, rootaudit, shell, store, FAILED, PASSED, ROOTAUDIT};
 use kirovadzun_host::gen::one_root;
 use kirovadzun_host::model::Answer;
-use kirovadzun_host::rootaudit::words::{refusal, KEEP};
+use kirovadzun_host::rootaudit::words::refusal;
 use std::fs;
 use std::path::{Path, PathBuf};
 use std::process::Command;
@@ -37,7 +37,6 @@ fn the_first_screen() {
         "do not clear the disk",
         "no checksum",
         "or even fetched",
-        "**None with a tree**, until request 02",
         "Before you clear a disk",
         "sha256sum --strict -c",
         "rootaudit --read --expect 19 -- *.root",
@@ -100,7 +99,6 @@ fn one_table_of_refusals() {
             assert!(row[5].contains(next), "{number}: {next}");
         }
     }
-    assert!(rows[5][5].contains(KEEP));
 }
 
 /// Each rule has its number in the restatement.

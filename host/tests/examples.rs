@@ -29,15 +29,19 @@ fn dates() {
 #[test]
 fn sums() {
     let mut tally = Tally::new("examples, sums");
-    for (class, name, title, sum) in [
-        ("TList", "StreamerInfo", "Doubly linked list", 64),
-        ("TFile", "a", "", 35),
-        ("TObjString", "x", "", 40),
-        ("", "", "", 29),
+    for (class, name, title, version, sum) in [
+        ("TList", "StreamerInfo", "Doubly linked list", 4, 64),
+        ("TFile", "a", "", 4, 35),
+        ("TObjString", "x", "", 1000, 40),
+        ("", "", "", 1, 29),
+        ("TList", "StreamerInfo", "Doubly linked list", 1004, 72),
+        ("TFile", "a", "", 1001, 43),
+        ("TObjString", "x", "", 2000, 48),
+        ("", "", "", 1001, 37),
     ] {
         let key = NewKey {
             nbytes: sum as u32,
-            version: 4,
+            version,
             objlen: 0,
             datime: 0,
             cycle: 1,
@@ -53,8 +57,15 @@ fn sums() {
         assert_eq!(write_key(&mut tally, &short, &[]).0, answer(16, 0, 0));
         let long = NewKey { name: &[b'x'; 255], ..short };
         assert_eq!(write_key(&mut tally, &long, &[]).0, answer(15, 0, 0));
+        // An offset past 32 bits: 16 in a narrow key; in a wide one SeekPdir is taken, and SeekKey is past the buffer.
+        for far in [1 << 32, u64::MAX] {
+            let [seek_key, seek_pdir] = [NewKey { seek_key: far, ..key }, NewKey { seek_pdir: far, ..key }];
+            let expected = if version > 1000 { [answer(17, 0, 0), answer(0, 0, sum)] } else { [answer(16, 0, 0); 2] };
+            let buffer = vec![7; sum as usize];
+            assert_eq!([seek_key, seek_pdir].map(|key| write_key(&mut tally, &key, &buffer).0), expected);
+        }
     }
-    tally.finish(16, &[0, 15, 16, 17]);
+    tally.finish(64, &[0, 15, 16, 17]);
 }
 
 #[test]

@@ -5,7 +5,7 @@ mod root_folder;
 use kirovadzun_host::compare::info::read_info;
 use kirovadzun_host::compare::Tally;
 use kirovadzun_host::ffi::Answer;
-use kirovadzun_host::gen::infos::{all_kinds, build, class, classes, Class, Field, Info, What};
+use kirovadzun_host::gen::infos::{all_kinds, build, build_of, class, classes, Class, Field, Info, What};
 use kirovadzun_host::gen::{self, Rng};
 use kirovadzun_host::model::streamer::{ARRAY, CLASS_MASK, INFO, KINDS, NEW_CLASS, REFERENCED};
 use std::fs;
@@ -33,6 +33,9 @@ fn refused(tally: &mut Tally, record: &[u8], number: u64, at: usize, what: &str)
     assert_eq!(read(tally, record), Answer::refusal(number, at as u64), "{what}");
 }
 
+/// Versions of keys with four-byte offsets and with eight-byte ones.
+const VERSIONS: [u16; 6] = [1, 4, 1000, 1001, 1004, 2000];
+
 /// A few records with every kind, built at 0.
 fn samples(seed: u64) -> Vec<(Vec<Class>, Info)> {
     let mut rng = Rng::new(seed);
@@ -59,6 +62,31 @@ fn examples() {
     tally.finish(1, &[0]);
 }
 
+/// The same record with eight-byte offsets in its key: each place in it is 8 more, the numbers of tags too.
+#[test]
+fn wide_keys() {
+    let mut tally = Tally::new("read_info, keys with eight-byte offsets");
+    for seed in 0..20 {
+        let mut rng = Rng::new(seed);
+        let classes = all_kinds(&mut rng);
+        let [narrow, wide] = [4, 1004].map(|version| build_of(&mut Rng::new(9), version, 0, &classes, None));
+        assert_eq!([narrow.keylen, wide.keylen], [64, 72]);
+        let first = wide.fields.iter().find(|field| field.what == What::Tag(INFO)).unwrap();
+        assert_eq!(first.at, 97);
+        let moved = |row: &[u32; 6]| [row[0], row[1], row[2] + 8, row[3] + 8, row[4], row[5]];
+        let rows: Vec<[u32; 6]> = narrow.rows.iter().map(moved).collect();
+        assert_eq!(wide.rows, rows);
+        assert_eq!(read_info(&mut tally, &wide.bytes, 0, 96), (Answer::success(16), rows));
+        // A reference that counts from a narrow key's start refers to nothing.
+        let reference = wide.fields.iter().find(|field| field.what == What::Reference(INFO)).unwrap();
+        assert_eq!(get32(&wide.bytes, reference.at), 0x8000_0063);
+        let mut record = wide.bytes.clone();
+        put32(&mut record, reference.at, 0x8000_005b);
+        refused(&mut tally, &record, 22, reference.at, "a reference 8 less");
+    }
+    tally.finish(40, &[0, 22]);
+}
+
 #[test]
 fn valid_records() {
     let mut tally = Tally::new("read_info, random valid records");
@@ -66,7 +94,8 @@ fn valid_records() {
     for _ in 0..12_000 {
         let at = rng.pick(&[0, 0, 1, 100, 255, 4097]);
         let classes = classes(&mut rng);
-        let info = build(&mut rng, at as u32, &classes, None);
+        let version = rng.pick(&VERSIONS);
+        let info = build_of(&mut rng, version, at as u64, &classes, None);
         let file = file_with(&mut rng, at, &info.bytes);
         let rows = info.rows.len();
         let len = 6 * rows + rng.below(14);
@@ -84,9 +113,9 @@ fn valid_records() {
 fn every_byte() {
     let mut tally = Tally::new("read_info, each byte changed");
     let mut rng = Rng::new(202);
-    for at in [0, 0, 100, 1000, 70_000] {
+    for (at, version) in [(0, 4), (0, 1004), (100, 4), (1000, 2000), (70_000, 1000), (70_001, 1001)] {
         let classes = all_kinds(&mut rng);
-        let info = build(&mut rng, at as u32, &classes, None);
+        let info = build_of(&mut rng, version, at as u64, &classes, None);
         let mut file = file_with(&mut rng, at, &info.bytes);
         // A file this long is only read around the record.
         let from = at.saturating_sub(1);
@@ -427,8 +456,8 @@ fn tables() {
 }
 
 /// A record with another key over the same data.
-fn with_key(at: u32, data: &[u8], strings: [&str; 3], more: usize, packed: i32) -> Vec<u8> {
-    let mut key = gen::plain_key_of(&mut Rng::new(1), at, [0; 3], 0);
+fn with_key(at: u64, data: &[u8], strings: [&str; 3], more: usize, packed: i32) -> Vec<u8> {
+    let mut key = gen::versioned_key(&mut Rng::new(1), 4, at, [0; 3], 0);
     key.strings = strings.map(|string| string.as_bytes().to_vec());
     key.keylen = (key.sum() + more) as u16;
     key.nbytes = (key.sum() + more + data.len()) as u32;
@@ -459,7 +488,7 @@ fn other_records() {
         (["", "", ""], 0, 0, 20),
     ] {
         for at in [0, 1, 100] {
-            let record = with_key(at as u32, &data, strings, more, packed);
+            let record = with_key(at as u64, &data, strings, more, packed);
             let file = file_with(&mut rng, at, &record);
             let (answer, _) = read_info(&mut tally, &file, at as u64, 96);
             let expected = if number == 0 { Answer::success(16) } else { Answer::refusal(number, at as u64) };
@@ -523,7 +552,8 @@ fn damaged_records() {
     for _ in 0..40_000 {
         let at = rng.pick(&[0, 0, 3, 100]);
         let classes = classes(&mut rng);
-        let info = build(&mut rng, at as u32, &classes, None);
+        let version = rng.pick(&VERSIONS);
+        let info = build_of(&mut rng, version, at as u64, &classes, None);
         let mut file = file_with(&mut rng, at, &info.bytes);
         for _ in 0..1 + rng.below(3) {
             let place = at + info.fields[rng.below(info.fields.len())].at;

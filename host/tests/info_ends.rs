@@ -55,7 +55,7 @@ impl Sample {
     fn new(seed: u64, at: usize) -> Self {
         let mut rng = Rng::new(seed);
         let classes = all_kinds(&mut rng);
-        let info = build(&mut rng, at as u32, &classes, None);
+        let info = build(&mut rng, at as u64, &classes, None);
         Sample { at, objects: objects(&info), info }
     }
 

@@ -4,7 +4,7 @@ mod zeros;
 
 use kirovadzun_host::compare::{answer_of, read_piece, Tally};
 use kirovadzun_host::ffi::{self, Answer};
-use kirovadzun_host::gen::{plain_key_of, Rng};
+use kirovadzun_host::gen::{versioned_key, Rng};
 use kirovadzun_host::model::key;
 use zeros::{Zeros, LEN};
 
@@ -25,14 +25,17 @@ fn wide_files() {
     greatest_pieces(&mut tally, &mut rng, &mut zeros);
     far_records(&mut tally, &mut rng, &mut zeros);
     far_headers(&mut tally, &mut rng, &mut zeros);
-    tally.finish(40, &[0, 5, 6]);
+    tally.finish(100, &[0, 5, 6]);
 }
 
 /// The greatest gap and the greatest record, each against the end.
 fn greatest_pieces(tally: &mut Tally, rng: &mut Rng, zeros: &mut Zeros) {
-    let mut record = plain_key_of(rng, 0, [5, 1, 0], 0);
-    record.nbytes = i32::MAX as u32;
-    for (size, bytes) in [(1 << 31, i32::MIN.to_be_bytes().to_vec()), ((1 << 31) - 1, record.header())] {
+    let [narrow, wide] = [4, 1004].map(|version| {
+        let mut record = versioned_key(rng, version, 0, [5, 1, 0], 0);
+        record.nbytes = i32::MAX as u32;
+        ((1 << 31) - 1, record.header())
+    });
+    for (size, bytes) in [(1 << 31, i32::MIN.to_be_bytes().to_vec()), narrow, wide] {
         zeros.put(0, &bytes);
         for len in [size - 1, size, size + 1, LEN] {
             let (answer, _) = read_piece(tally, &zeros.bytes()[..len], 0);
@@ -41,32 +44,49 @@ fn greatest_pieces(tally: &mut Tally, rng: &mut Rng, zeros: &mut Zeros) {
     }
 }
 
-/// Records whose SeekKey is the low half of their place: good below 2^32, 6 from there on.
+/// Records whose SeekKey is their place, or of a narrow key its low half: 6 where that is another.
 fn far_records(tally: &mut Tally, rng: &mut Rng, zeros: &mut Zeros) {
-    for at in [WIDE - 200, WIDE - 45, WIDE - 44, WIDE - 20, WIDE - 1, WIDE, WIDE + 1, WIDE + 100] {
-        let record = plain_key_of(rng, at as u32, [5, 1, 0], 10).record(rng);
+    let places = [WIDE - 200, WIDE - 53, WIDE - 45, WIDE - 44, WIDE - 20, WIDE - 1, WIDE, WIDE + 1, WIDE + 100];
+    for (at, version) in places.into_iter().flat_map(|at| [(at, 4), (at, 1004)]) {
+        let record = versioned_key(rng, version, at as u64, [5, 1, 0], 10).record(rng);
+        let end = at + record.len();
         zeros.put(at, &record);
-        for len in [at + 44, at + 45, LEN] {
-            read_piece(tally, &zeros.bytes()[..len], at as u64);
+        for len in [end - 1, end, LEN] {
+            let (answer, _) = read_piece(tally, &zeros.bytes()[..len], at as u64);
+            let expected = match (len < end, version == 4 && at >= WIDE) {
+                (true, _) => 5,
+                (false, true) => 6,
+                (false, false) => 0,
+            };
+            assert_eq!(answer.number, expected, "{at} {version}");
         }
+        // The low half alone, in either width.
+        let low = versioned_key(rng, version, at as u32 as u64, [5, 1, 0], 10).record(rng);
+        zeros.put(at, &low);
+        let (answer, _) = read_piece(tally, zeros.bytes(), at as u64);
+        assert_eq!(answer.number, if at < WIDE { 0 } else { 6 });
         zeros.put(at, &(-100i32).to_be_bytes());
         read_piece(tally, zeros.bytes(), at as u64);
-        zeros.put(at, &[0; 45]);
+        zeros.put(at, &[0; 53]);
     }
 }
 
 /// Headers written near 2^32. A place that wrapped would land in the first bytes.
 fn far_headers(tally: &mut Tally, rng: &mut Rng, zeros: &mut Zeros) {
-    for at in [WIDE - 200, WIDE - 20, WIDE - 1] {
-        let raw = plain_key_of(rng, at as u32, [5, 1, 0], 10);
+    let places = [WIDE - 200, WIDE - 20, WIDE - 1, WIDE, WIDE + 1, WIDE + 100];
+    for (at, version) in places.into_iter().flat_map(|at| [(at, 4), (at, 1004)]) {
+        let raw = versioned_key(rng, version, at as u64, [5, 1, 0], 10);
         let key = raw.to_write();
-        for len in [at + 44, at + 45, LEN] {
+        let end = at + raw.nbytes as usize;
+        for len in [end - 1, end, LEN] {
             let before = zeros.windows(at, len);
             let mut after = before.clone();
             let mut expected = Answer::refusal(17, 0);
-            if len >= at + 45 {
-                after[1][300..335].copy_from_slice(&raw.header());
-                expected = Answer::success(35);
+            if version == 4 && at >= WIDE {
+                expected = Answer::refusal(16, 0);
+            } else if len >= end {
+                after[1][300..300 + raw.sum()].copy_from_slice(&raw.header());
+                expected = Answer::success(raw.sum() as u64);
             }
             let buf = &mut zeros.bytes()[..len];
             assert_eq!(key::write_key(&key, buf), expected);

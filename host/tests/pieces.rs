@@ -16,7 +16,7 @@ fn far_places(at: u64, len: u64) -> Vec<u64> {
 }
 
 /// Random bytes up to `at`, a record there, and random bytes after it.
-fn file_with(rng: &mut Rng, at: u32, key: &RawKey, after: usize) -> Vec<u8> {
+fn file_with(rng: &mut Rng, at: u64, key: &RawKey, after: usize) -> Vec<u8> {
     let mut file = rng.bytes(at as usize);
     file.extend(key.record(rng));
     file.extend(rng.bytes(after));
@@ -44,9 +44,9 @@ fn short_files() {
                 read_piece(&mut tally, &file, at);
             }
         }
-        // The least record, of 29 bytes, where it fits.
+        // The least record, of 29 bytes or 37, where it fits.
         for at in 0..=len {
-            let key = gen::plain_key_of(&mut rng, at as u32, [0; 3], 0);
+            let key = gen::plain_key_of(&mut rng, at as u64, [0; 3], 0);
             let mut file = rng.bytes(at);
             file.extend(key.header());
             file.truncate(len);
@@ -65,7 +65,7 @@ fn header_limits() {
             let base = gen::plain_key_of(&mut rng, at, lengths, 7);
             let sum = base.sum() as u32;
             let mut keys = Vec::new();
-            for version in [0, 1, 2, 999, 1000, 1001, 1004, 0x8001, 65535] {
+            for version in [0, 1, 2, 999, 1000, 1001, 1004, 1999, 2000, 2001, 0x8001, 65535] {
                 keys.push(RawKey { version, ..base.clone() });
             }
             for objlen in [0, 1, i32::MAX as u32, i32::MAX as u32 + 1, u32::MAX] {
@@ -73,6 +73,10 @@ fn header_limits() {
             }
             for seek_key in [0, at ^ 1, at.wrapping_sub(1), at + 1, at + 256, at + (1 << 16), at ^ (1 << 31), at] {
                 keys.push(RawKey { seek_key, ..base.clone() });
+            }
+            // In a narrow key the low half alone is laid down, and that is right.
+            for bit in [32, 33, 48, 63] {
+                keys.push(RawKey { seek_key: at ^ (1 << bit), ..base.clone() });
             }
             for nbytes in [sum - 1, sum, sum + 1, sum + 7] {
                 for keylen in [0, 1, sum - 1, sum, sum + 1, nbytes - 1, nbytes, nbytes + 1, 32768, 65535] {
@@ -84,7 +88,7 @@ fn header_limits() {
                 // Ends one byte before the record, with it, and later.
                 let end = at as usize + key.nbytes as usize;
                 for len in [end - 1, end, file.len()] {
-                    read_piece(&mut tally, &file[..len], at.into());
+                    read_piece(&mut tally, &file[..len], at);
                 }
             }
         }
@@ -109,17 +113,17 @@ fn several_limits_at_once() {
             key.keylen = rng.pick(&[sum - 1, sum, sum + 1, nbytes - 1, nbytes, nbytes + 1]) as u16;
         }
         if rng.once_in(4) {
-            key.version = rng.pick(&[0, 1, 1000, 1001]);
+            key.version = rng.pick(&[0, 1, 1000, 1001, 2000, 2001]);
         }
         if rng.once_in(4) {
             key.objlen = rng.pick(&[0, i32::MAX as u32, i32::MAX as u32 + 1, u32::MAX]);
         }
         if rng.once_in(8) {
-            key.seek_key = rng.pick(&[at + 1, at.wrapping_sub(1), at ^ 1 << 16, 100]);
+            key.seek_key = rng.pick(&[at + 1, at.wrapping_sub(1), at ^ 1 << 16, at ^ 1 << 32, 100]);
         }
         let file = file_with(&mut rng, at, &key, 4);
         let len = if rng.once_in(8) { file.len() - 1 - rng.below(8) } else { file.len() };
-        read_piece(&mut tally, &file[..len], at.into());
+        read_piece(&mut tally, &file[..len], at);
     }
     tally.finish(150_000, &[0, 5, 6]);
 }
@@ -128,17 +132,19 @@ fn several_limits_at_once() {
 fn longest_key() {
     let mut tally = Tally::new("read_piece, KeyLen near 65535");
     let mut rng = Rng::new(12);
-    let base = gen::plain_key_of(&mut rng, 3, [254; 3], 65535);
-    for keylen in [790, 791, 792, 32767, 32768, 65534, 65535] {
-        for nbytes in [65533, 65534, 65535, 65536, 65535 + 791] {
-            let key = RawKey { keylen, nbytes, ..base.clone() };
-            let file = file_with(&mut rng, 3, &key, 2);
-            for len in [file.len() - 3, file.len() - 2, file.len()] {
-                read_piece(&mut tally, &file[..len], 3);
+    for version in [1000, 1001] {
+        let base = gen::versioned_key(&mut rng, version, 3, [254; 3], 65535);
+        for keylen in [790, 791, 792, 798, 799, 800, 32767, 32768, 65534, 65535] {
+            for nbytes in [65533, 65534, 65535, 65536, 65535 + 791] {
+                let key = RawKey { keylen, nbytes, ..base.clone() };
+                let file = file_with(&mut rng, 3, &key, 2);
+                for len in [file.len() - 3, file.len() - 2, file.len()] {
+                    read_piece(&mut tally, &file[..len], 3);
+                }
             }
         }
     }
-    tally.finish(100, &[0, 5, 6]);
+    tally.finish(200, &[0, 5, 6]);
 }
 
 #[test]
@@ -151,11 +157,12 @@ fn sizes() {
         for n in [size, -size, (-size).wrapping_sub(1)] {
             for at in [0usize, 1, 100] {
                 // A header that would be good if n let it.
-                let key = RawKey { nbytes: n as u32, keylen: 29, ..gen::plain_key_of(&mut rng, at as u32, [0; 3], 0) };
+                let good = gen::plain_key_of(&mut rng, at as u64, [0; 3], 0);
+                let key = RawKey { nbytes: n as u32, ..good };
                 let mut file = rng.bytes(at);
                 file.extend(key.header());
                 let end = at + n.unsigned_abs() as usize;
-                let lengths = [at + 3, at + 4, at + 29, end.saturating_sub(1), end, end + 1];
+                let lengths = [at + 3, at + 4, at + 29, at + 37, end.saturating_sub(1), end, end + 1];
                 for len in lengths.into_iter().filter(|&len| len < 2000) {
                     file.resize(file.len().max(len), 0);
                     read_piece(&mut tally, &file[..len], at as u64);
@@ -171,26 +178,27 @@ fn single_byte_changes() {
     let mut tally = Tally::new("read_piece, each byte of a header changed");
     let mut rng = Rng::new(14);
     for at in [0, 100] {
-        let mut keys = vec![
-            gen::plain_key_of(&mut rng, at, [0, 0, 0], 0),
-            gen::plain_key_of(&mut rng, at, [5, 1, 0], 33),
-            gen::plain_key_of(&mut rng, at, [10, 1, 12], 10),
-        ];
-        let mut basket = gen::plain_key_of(&mut rng, at, [7, 3, 4], 20);
-        basket.keylen += 19;
-        keys.push(basket);
+        let mut keys = Vec::new();
+        for version in [4, 1004] {
+            for (lengths, data) in [([0, 0, 0], 0), ([5, 1, 0], 33), ([10, 1, 12], 10)] {
+                keys.push(gen::versioned_key(&mut rng, version, at, lengths, data));
+            }
+            let mut basket = gen::versioned_key(&mut rng, version, at, [7, 3, 4], 20);
+            basket.keylen += 19;
+            keys.push(basket);
+        }
         for key in keys {
             let file = file_with(&mut rng, at, &key, 300);
             for place in at as usize..at as usize + key.sum() {
                 for value in 0..=255 {
                     let mut changed = file.clone();
                     changed[place] = value;
-                    read_piece(&mut tally, &changed, at.into());
+                    read_piece(&mut tally, &changed, at);
                 }
             }
         }
     }
-    tally.finish(70_000, &[0, 5, 6]);
+    tally.finish(140_000, &[0, 5, 6]);
 }
 
 #[test]
@@ -198,15 +206,15 @@ fn strings_past_the_record() {
     let mut tally = Tally::new("read_piece, records shorter than their header");
     let mut rng = Rng::new(15);
     for lengths in [[0, 0, 0], [5, 1, 0], [0, 9, 3], [0, 0, 20], [30, 0, 40], [254, 254, 254]] {
-        for at in [0, 100] {
-            let key = gen::plain_key_of(&mut rng, at, lengths, 4);
+        for (at, version) in [(0, 4), (100, 4), (0, 1004), (100, 1004)] {
+            let key = gen::versioned_key(&mut rng, version, at, lengths, 4);
             for nbytes in 1..=key.nbytes {
                 // The file holds the whole header, wherever the record ends.
                 let sum = key.sum() as u32;
-                for keylen in [sum, nbytes, nbytes.min(sum), nbytes.max(sum), 26, 29] {
+                for keylen in [sum, nbytes, nbytes.min(sum), nbytes.max(sum), 26, 29, 34, 37] {
                     let short = RawKey { nbytes, keylen: keylen as u16, ..key.clone() };
                     let file = file_with(&mut rng, at, &short, 8);
-                    read_piece(&mut tally, &file, at.into());
+                    read_piece(&mut tally, &file, at);
                 }
             }
         }

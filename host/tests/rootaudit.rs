@@ -4,12 +4,12 @@ mod command;
 
 use command::{line, rootaudit, store, FAILED, PASSED, REFUSED};
 use kirovadzun_host::gen::files::plan_of;
-use kirovadzun_host::gen::{nested, one_root, Rng};
+use kirovadzun_host::gen::{nested, one_root, wide_root, Rng};
 use kirovadzun_host::model::audit::{self, part};
 use kirovadzun_host::model::key;
 use kirovadzun_host::rootaudit::escape;
 use kirovadzun_host::rootaudit::verdict::first_room;
-use kirovadzun_host::rootaudit::words::{AGAIN, KEEP, LOOK, WAIT};
+use kirovadzun_host::rootaudit::words::{AGAIN, LOOK, WAIT};
 use std::ffi::OsStr;
 use std::path::Path;
 
@@ -21,6 +21,15 @@ passed 5
 218 79 keys 100\tTFile\ta;1
 297 12 gap 0
 309 55 free 0\tTFile\ta;1
+";
+
+const WIDE_ROOT: &str = "\
+passed 5
+100 88 head 0\tTFile\ta;1
+188 58 listed 100\tTObjString\tx;1
+246 95 keys 100\tTFile\ta;1
+341 12 gap 0
+353 79 free 0\tTFile\ta;1
 ";
 
 /// For files alone: nothing is printed to standard error.
@@ -41,6 +50,9 @@ fn prints_rows() {
     let path = store("audit_rows.root", &one_root());
     let (status, out, errors) = rootaudit(&[OsStr::new("--rows"), path.as_os_str()]);
     assert_eq!((status, out, errors), (PASSED, format!("{}: {ONE_ROOT}", path.display()), String::new()));
+    let path = store("audit_rows_wide.root", &wide_root());
+    let (status, out, errors) = rootaudit(&[OsStr::new("--rows"), path.as_os_str()]);
+    assert_eq!((status, out, errors), (PASSED, format!("{}: {WIDE_ROOT}", path.display()), String::new()));
 }
 
 /// What is done to one.root.
@@ -55,12 +67,7 @@ const REFUSALS: [(Change, &str, &str, usize); 15] = [
     (Change::Cut(0), "refused 1 at 0: shorter than the header of a ROOT file, 100 bytes", AGAIN, 0),
     (Change::Cut(99), "refused 1 at 0: shorter than the header of a ROOT file, 100 bytes", AGAIN, 0),
     (Change::Byte(0, b'R'), "refused 2 at 0: no ROOT file: it does not begin with \"root\"", LOOK, 0),
-    (
-        Change::Byte(32, 8),
-        "refused 3 at 0: its header is of the large kind, with eight-byte offsets, or damaged",
-        KEEP,
-        0,
-    ),
+    (Change::Byte(32, 8), "refused 3 at 0: Version and Units in its header disagree", AGAIN, 0),
     (Change::Cut(300), "refused 4 at 0: its header says 364 bytes, it has 300", WAIT, 0),
     (Change::Byte(13, 1), "refused 4 at 0: its header says 65,900 bytes, it has 364", WAIT, 0),
     (
@@ -78,8 +85,8 @@ const REFUSALS: [(Change, &str, &str, usize); 15] = [
     ),
     (
         Change::Byte(313, 4),
-        "refused 6 at 309: the record here has a key of version 1028, with eight-byte offsets, or a damaged one",
-        KEEP,
+        "refused 6 at 309: the record here has a damaged key, or says that it stands elsewhere",
+        AGAIN,
         4,
     ),
     (
@@ -137,6 +144,23 @@ fn refuses() {
         let before: String = BEFORE.split_inclusive('\n').take(*pieces).collect();
         let (status, out, errors) = rootaudit(&[OsStr::new("--rows"), path.as_os_str()]);
         assert_eq!((status, out, errors), (REFUSED, words + &before, String::new()));
+    }
+}
+
+/// END of a wide file has eight bytes, and all of them count.
+#[test]
+fn refuses_bounds_of_wide_files() {
+    for (at, value, len, words) in [
+        (12, 0, 300, "its header says 432 bytes, it has 300"),
+        (15, 1, 432, "its header says 4,294,967,728 bytes, it has 432"),
+        (12, 1, 432, "its header says 72,057,594,037,928,368 bytes, it has 432"),
+        (10, 1, 432, "its header says that its records begin at byte 356, and not at 100"),
+    ] {
+        let mut file = wide_root()[..len].to_vec();
+        file[at] = value;
+        let path = store("audit_wide_bounds.root", &file);
+        let words = line(&path, &format!("refused 4 at 0: {words}; now: {WAIT}"));
+        assert_eq!(rootaudit(&[&path]), (REFUSED, words, String::new()));
     }
 }
 
@@ -198,7 +222,7 @@ fn sizes_its_tables() {
 fn printed(file: &[u8], pieces: usize) -> String {
     let (answer, rows) = audit::audit(file, pieces);
     assert_eq!((answer.number, rows.len()), (0, pieces));
-    let ends = rows.iter().skip(1).map(|row| row.start).chain([file.len() as u32]);
+    let ends = rows.iter().skip(1).map(|row| row.start).chain([file.len() as u64]);
     let lines = rows.iter().zip(ends).map(|(row, end)| {
         let part = part::NAMES[row.part as usize];
         format!("{} {} {part} {}{}\n", row.start, end - row.start, row.owner, key_of(file, row))

@@ -26,11 +26,24 @@ fn rootaudit(path: &Path, audit: Audit) -> (u8, String) {
     (status, String::from_utf8(out).unwrap())
 }
 
-/// Fails unless the one line says that the file was not audited.
-fn expect_failure(path: &Path, audit: Audit) {
+/// The rows of one.root: start, part and owner.
+const ROWS: [[u64; 5]; 3] = [[100, 168, 218, 297, 309], [1, 5, 4, 0, 2], [0, 100, 100, 0, 0]];
+const START: usize = 0;
+const PART: usize = 1;
+
+/// A pass with these rows.
+fn pass(tables: [&mut [u64]; 3], rows: [[u64; 5]; 3]) -> Answer {
+    for (table, rows) in tables.into_iter().zip(rows) {
+        table[..5].copy_from_slice(&rows);
+    }
+    Answer::success(5)
+}
+
+/// Fails unless the one line says that the file was not audited, and why.
+fn expect_failure(path: &Path, why: &str, audit: Audit) {
     let (status, out) = rootaudit(path, audit);
     assert_eq!((status, out.lines().count()), (FAILED, 1), "{out}");
-    assert!(out.starts_with(&format!("{}: not audited", path.display())) && !out.contains("passed"), "{out}");
+    assert!(out.starts_with(&format!("{}: not audited{why}", path.display())) && !out.contains("passed"), "{out}");
 }
 
 #[test]
@@ -39,7 +52,7 @@ fn unfinished_is_never_a_pass() {
     let most = (1 << 20) / 4;
     for count in [0, 1, 5, 1023, 1024, 1025, 5000, most, most + 1, u32::MAX.into(), u64::MAX] {
         let rooms = RefCell::new(Vec::new());
-        let audit = |_: &[u8], tables: [&mut [u32]; 3]| {
+        let audit = |_: &[u8], tables: [&mut [u64]; 3]| {
             let [start, part, owner] = tables;
             assert_eq!([start.len(); 2], [part.len(), owner.len()]);
             // Rows as of a pass.
@@ -47,7 +60,7 @@ fn unfinished_is_never_a_pass() {
             rooms.borrow_mut().push(start.len() as u64);
             Answer { number: 7, place: 0, count }
         };
-        expect_failure(&path, &audit);
+        expect_failure(&path, " to its end: ", &audit);
         // A second audit if the count can be true, with so many rows, and no third.
         let second = (1025..=most).contains(&count).then_some(count);
         assert_eq!(rooms.into_inner(), [1024].into_iter().chain(second).collect::<Vec<u64>>());
@@ -58,19 +71,46 @@ fn unfinished_is_never_a_pass() {
 #[test]
 fn unfinished_again() {
     let path = store("fake_again.root", &vec![0; 1 << 20]);
-    let audit = |_: &[u8], [start, ..]: [&mut [u32]; 3]| Answer { number: 7, place: 0, count: start.len() as u64 + 1 };
-    expect_failure(&path, &audit);
+    let audit = |_: &[u8], [start, ..]: [&mut [u64]; 3]| Answer { number: 7, place: 0, count: start.len() as u64 + 1 };
+    expect_failure(&path, " to its end: ", &audit);
 }
 
 #[test]
 fn answers_that_are_none() {
     let path = store("fake_numbers.root", &one_root());
+    let why = ": the library answered Answer {";
     for number in [15, 18, 24, 25, u64::MAX] {
-        expect_failure(&path, &|_, _| Answer { number, place: 0, count: 5 });
+        expect_failure(&path, why, &|_, tables| Answer { number, ..pass(tables, ROWS) });
     }
     // A pass of no pieces, or of more than there are rows.
     for count in [0, 1025, u64::MAX] {
-        expect_failure(&path, &|_, _| Answer { number: 0, place: 0, count });
+        expect_failure(&path, why, &|_, tables| Answer { count, ..pass(tables, ROWS) });
+    }
+}
+
+/// A number that is no part, and starts that do not rise from 100 to below END.
+#[test]
+fn rows_that_are_none() {
+    let path = store("fake_rows.root", &one_root());
+    assert_eq!(rootaudit(&path, &|_, tables| pass(tables, ROWS)).0, PASSED);
+    let parts = (0..5).flat_map(|row| [8, 1 << 32, (1 << 32) + 5, u64::MAX].map(|part| (PART, row, part)));
+    let starts = [
+        (START, 0, 0),
+        (START, 0, 99),
+        (START, 0, 101),
+        (START, 1, 100),
+        (START, 2, 168),
+        (START, 2, 167),
+        (START, 2, (1 << 32) + 218),
+        (START, 4, 297),
+        (START, 4, 364),
+        (START, 4, (1 << 32) + 309),
+        (START, 4, u64::MAX),
+    ];
+    for (table, row, number) in parts.chain(starts) {
+        let mut rows = ROWS;
+        rows[table][row] = number;
+        expect_failure(&path, ": the library answered rows of no file\n", &|_, tables| pass(tables, rows));
     }
 }
 
@@ -78,13 +118,13 @@ fn answers_that_are_none() {
 #[test]
 fn a_second_audit() {
     let file = vec![0; 100_000];
-    let audit = |_: &[u8], [start, part, owner]: [&mut [u32]; 3]| {
+    let audit = |_: &[u8], [start, part, owner]: [&mut [u64]; 3]| {
         if start.len() < 2000 {
             return Answer { number: 7, place: 0, count: 2000 };
         }
         assert_eq!([start.len(), part.len(), owner.len()], [2000; 3]);
         for (row, start) in start.iter_mut().enumerate() {
-            *start = 100 + 4 * row as u32;
+            *start = 100 + 4 * row as u64;
         }
         part[1999] = 6;
         owner[1999] = 100;
@@ -125,17 +165,19 @@ fn rooms_to_begin_with() {
 fn expect_seen(name: &str, meddle: impl Fn(&Path)) {
     let path = store(name, &one_root());
     let date = fs::metadata(&path).unwrap().modified().unwrap();
-    let audit = |_: &[u8], _: [&mut [u32]; 3]| {
+    let audit = |_: &[u8], tables: [&mut [u64]; 3]| {
         // The clock of a file system may stand still for so long.
         thread::sleep(Duration::from_millis(30));
         meddle(&path);
         if let Ok(file) = OpenOptions::new().write(true).open(&path) {
             file.set_modified(date).unwrap();
         }
-        Answer::success(5)
+        pass(tables, ROWS)
     };
-    expect_failure(&path, &audit);
+    expect_failure(&path, CHANGED, &audit);
 }
+
+const CHANGED: &str = ": it was changed, replaced or removed meanwhile\n";
 
 #[test]
 fn a_change_is_seen() {
@@ -163,25 +205,25 @@ fn a_replacement_is_seen() {
     }
     let link = folder.join("link.root");
     symlink(&target, &link).unwrap();
-    let audit = |_: &[u8], _: [&mut [u32]; 3]| {
+    let audit = |_: &[u8], tables: [&mut [u64]; 3]| {
         fs::remove_file(&link).unwrap();
         symlink(&other, &link).unwrap();
-        Answer::success(5)
+        pass(tables, ROWS)
     };
-    expect_failure(&link, &audit);
+    expect_failure(&link, CHANGED, &audit);
 }
 
 /// A file that passed and is changed while another is audited: its pass is taken back.
 #[test]
 fn a_late_change_is_seen() {
     let first = store("fake_first.root", &one_root());
-    let second = store("fake_second.root", &[0; 50]);
-    let audit = |bytes: &[u8], _: [&mut [u32]; 3]| {
-        if bytes.len() == 50 {
+    let second = store("fake_second.root", &[0; 500]);
+    let audit = |bytes: &[u8], tables: [&mut [u64]; 3]| {
+        if bytes.len() == 500 {
             thread::sleep(Duration::from_millis(30));
             fs::write(&first, one_root()).unwrap();
         }
-        Answer::success(1)
+        pass(tables, ROWS)
     };
     let (mut out, mut errors) = (Vec::new(), Vec::new());
     let mut console = Console { out: &mut out, errors: &mut errors, terminal: None };
@@ -196,9 +238,9 @@ fn a_late_change_is_seen() {
 #[test]
 fn no_change_is_seen() {
     let path = store("fake_untouched.root", &one_root());
-    let audit = |_: &[u8], _: [&mut [u32]; 3]| {
+    let audit = |_: &[u8], tables: [&mut [u64]; 3]| {
         assert_eq!(fs::read(&path).unwrap(), one_root());
-        Answer::success(1)
+        pass(tables, ROWS)
     };
     assert_eq!(rootaudit(&path, &audit).0, PASSED);
 }
@@ -218,7 +260,7 @@ fn output_that_fails() {
     let path = store("fake_output.root", &one_root());
     let mut errors = Vec::new();
     let mut console = Console { out: &mut Full, errors: &mut errors, terminal: None };
-    assert_eq!(run([path.into()], &|_, _| Answer::success(5), &mut console), FAILED);
+    assert_eq!(run([path.into()], &|_, tables| pass(tables, ROWS), &mut console), FAILED);
     assert_eq!(String::from_utf8(errors).unwrap(), "rootaudit: output: full\n");
 }
 

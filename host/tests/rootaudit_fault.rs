@@ -66,7 +66,7 @@ fn cut_short_with_a_full_output() {
 
 /// The command over an audit that cuts its second file and then reads that file's last byte.
 fn fault(path: OsString) -> ! {
-    let cut = |bytes: &[u8], tables: [&mut [u32]; 3]| {
+    let cut = |bytes: &[u8], tables: [&mut [u64]; 3]| {
         if bytes.len() < 1 << 16 {
             return library(bytes, tables);
         }

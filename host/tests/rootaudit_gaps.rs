@@ -1,34 +1,17 @@
 //! Large gaps through the command: holes of a sparse file, which take no room on the disk.
 
 mod command;
+mod sparse;
 
 use command::{line, rootaudit, PASSED, REFUSED};
 use kirovadzun_host::gen::gaps::Gapped;
-use std::fs::{self, File};
-use std::os::unix::fs::{FileExt, MetadataExt};
-use std::path::{Path, PathBuf};
+use sparse::Sparse;
+use std::path::Path;
 
 const MOST_END: usize = 1_999_999_999;
 
-/// A file with these gaps, of which only the stretches are written. None, and a word about it, if the disk has no such
-/// files.
-fn sparse(name: &str, file: &Gapped) -> Option<(PathBuf, File)> {
-    let path = Path::new(env!("CARGO_TARGET_TMPDIR")).join(name);
-    let open = File::create(&path).unwrap();
-    if let Err(error) = open.set_len(file.end as u64) {
-        println!("skipped: no file of {} bytes: {error}", file.end);
-        fs::remove_file(path).unwrap();
-        return None;
-    }
-    for (at, bytes) in &file.stretches {
-        open.write_all_at(bytes, *at as u64).unwrap();
-    }
-    if open.metadata().unwrap().blocks() > 10_000 {
-        println!("skipped: the disk has no sparse files");
-        fs::remove_file(path).unwrap();
-        return None;
-    }
-    Some((path, open))
+fn written(name: &str, file: &Gapped) -> Option<Sparse> {
+    Sparse::new(name, file.end, file.stretches.clone())
 }
 
 /// What a line says of a refusal, without the name and what to do now.
@@ -39,7 +22,22 @@ fn refused(path: &Path) -> String {
     words.split_once("; now: ").unwrap().0.into()
 }
 
-/// Up to the greatest END a file passes if the last byte of its gap is listed, and is 9 with the byte after.
+/// A file passes if the last byte of each gap is listed, and is 9 with the byte after or the byte before.
+fn expect_last_bytes(file: &Gapped, sparse: &Sparse) {
+    let passed = format!("passed {}", 4 + file.gaps.len());
+    assert_eq!(rootaudit(&[&sparse.path]), (PASSED, line(&sparse.path, &passed), String::new()));
+    for (nth, gap) in file.gaps.iter().enumerate() {
+        for last in [gap[1] + 1, gap[1] - 1] {
+            sparse.put(file.segment(nth)[1], last as u64);
+            let words = refused(&sparse.path);
+            assert!(words.starts_with(&format!("refused 9 at {}: ", file.seek_free)), "{words}");
+        }
+        sparse.put(file.segment(nth)[1], gap[1] as u64);
+        assert_eq!(rootaudit(&[&sparse.path]).0, PASSED);
+    }
+}
+
+/// Up to the greatest END.
 #[test]
 fn as_large_as_a_file_may_be() {
     for (name, sizes) in [
@@ -48,29 +46,31 @@ fn as_large_as_a_file_may_be() {
         ("gaps_small.root", vec![4; 3]),
     ] {
         let file = Gapped::new(&sizes, &[]);
-        let Some((path, open)) = sparse(name, &file) else { continue };
-        assert_eq!(rootaudit(&[&path]), (PASSED, line(&path, &format!("passed {}", 4 + sizes.len())), String::new()));
-        for (nth, gap) in file.gaps.iter().enumerate() {
-            for (last, is_pass) in [(gap[1] + 1, false), (gap[1] - 1, false), (gap[1], true)] {
-                open.write_all_at(&(last as u32).to_be_bytes(), file.segment(nth)[1] as u64).unwrap();
-                if is_pass {
-                    assert_eq!(rootaudit(&[&path]).0, PASSED);
-                } else {
-                    let words = refused(&path);
-                    assert!(words.starts_with(&format!("refused 9 at {}: ", file.seek_free)), "{words}");
-                }
-            }
-        }
-        fs::remove_file(path).unwrap();
+        let Some(sparse) = written(name, &file) else { continue };
+        expect_last_bytes(&file, &sparse);
     }
 }
 
-/// A gap of 2^31 bytes, the greatest there is, makes a file longer than is read yet.
+/// A gap of 2^31 bytes, the greatest there is, makes a file longer than one with four-byte offsets may be.
 #[test]
 fn greatest_gap() {
-    let file = Gapped::new(&[1 << 31], &[]);
-    let Some((path, _)) = sparse("gaps_greatest.root", &file) else { return };
-    let words = "refused 4 at 0: it has 2,147,484,000 bytes, and at most 1,999,999,999 are read yet";
-    assert_eq!(refused(&path), words);
-    fs::remove_file(path).unwrap();
+    let Some(sparse) = written("gaps_greatest.root", &Gapped::new(&[1 << 31], &[])) else { return };
+    let words = "refused 4 at 0: it has 2,147,484,000 bytes, \
+                 and a file with four-byte offsets has at most 1,999,999,999";
+    assert_eq!(refused(&sparse.path), words);
+}
+
+/// A file with eight-byte offsets has as many of them as it likes.
+#[test]
+fn greatest_gaps_of_a_wide_file() {
+    for (name, before, after) in [
+        ("gaps_wide_one.root", vec![1 << 31], vec![]),
+        ("gaps_wide_two.root", vec![1 << 31; 2], vec![]),
+        ("gaps_wide_three.root", vec![1 << 31; 2], vec![1 << 31]),
+        ("gaps_wide_small.root", vec![4; 3], vec![4]),
+    ] {
+        let file = Gapped::wide(&before, &after);
+        let Some(sparse) = written(name, &file) else { continue };
+        expect_last_bytes(&file, &sparse);
+    }
 }

@@ -3,7 +3,7 @@
 mod command;
 
 use command::{folder, printed, PASSED, REFUSED, ROOTAUDIT};
-use kirovadzun_host::gen::{one_root, plain_key_of, Rng};
+use kirovadzun_host::gen::{one_root, versioned_key, Rng};
 use kirovadzun_host::rootaudit::escape::{ascii, text};
 use std::collections::HashSet;
 use std::ffi::OsStr;
@@ -84,7 +84,7 @@ fn no_two_alike() {
 #[test]
 fn names_of_records() {
     let mut rng = Rng::new(50);
-    let mut key = plain_key_of(&mut rng, 100, [0; 3], 7);
+    let mut key = versioned_key(&mut rng, 4, 100, [0; 3], 7);
     key.strings = [b"A\tB".to_vec(), b"\x1b[31m\n\xff: passed 5".to_vec(), vec![]];
     key.keylen = key.sum() as u16;
     (key.nbytes, key.cycle) = (key.keylen.into(), 0xffff);

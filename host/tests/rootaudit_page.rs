@@ -3,7 +3,7 @@
 mod command;
 
 use command::{folder, rootaudit_in, FAILED, PASSED, REFUSED};
-use kirovadzun_host::gen::{nested, one_root, Rng};
+use kirovadzun_host::gen::{nested, one_root, wide_root, Rng};
 use kirovadzun_host::rootaudit::words::grouped;
 use std::fs;
 use std::path::Path;
@@ -169,8 +169,17 @@ fn odd_places() {
     let mut file = one_root();
     file[37..41].fill(0xff);
     expect(&page(&folder, "info.root", &file).1, &["REFUSED: 10 at byte 4,294,967,295", ", beyond the end</text>"]);
+    let mut file = wide_root();
+    file[12..20].fill(0xff);
+    let end = "END in the header: 18,446,744,073,709,551,615, far beyond this drawing";
+    expect(&page(&folder, "far_wide.root", &file).1, &[end]);
+    let mut file = wide_root();
+    file[45..53].fill(0xff);
+    let place = "REFUSED: 10 at byte 18,446,744,073,709,551,615";
+    expect(&page(&folder, "info_wide.root", &file).1, &[place, ", beyond the end</text>"]);
     for len in [0, 1, 12, 99, 100] {
         expect_red(&page(&folder, "short.root", &one_root()[..len]).1);
+        expect_red(&page(&folder, "short_wide.root", &wide_root()[..len]).1);
     }
     let mut file = one_root();
     file[32] = 8;

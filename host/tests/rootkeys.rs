@@ -3,7 +3,7 @@
 mod command;
 
 use command::{store, ROOTKEYS};
-use kirovadzun_host::gen::{one_root, plain_key_of, Rng};
+use kirovadzun_host::gen::{one_root, versioned_key, wide_root, Rng};
 use std::path::Path;
 use std::process::Command;
 
@@ -13,6 +13,14 @@ const LISTED: &str = "\
 218\t79\trecord\tTFile\ta;1\t2024-03-15 12:30:45
 297\t12\tgap
 309\t55\trecord\tTFile\ta;1\t2024-03-15 12:30:45
+";
+
+const LISTED_WIDE: &str = "\
+100\t88\trecord\tTFile\ta;1\t2024-03-15 12:30:45
+188\t58\trecord\tTObjString\tx;1\t2024-03-15 12:30:45
+246\t95\trecord\tTFile\ta;1\t2024-03-15 12:30:45
+341\t12\tgap
+353\t79\trecord\tTFile\ta;1\t2024-03-15 12:30:45
 ";
 
 /// The exit status and what was printed to standard output.
@@ -32,6 +40,8 @@ fn ended(path: &Path, words: &str) -> String {
 fn walks_to_the_end() {
     let path = store("listed.root", &one_root());
     assert_eq!(rootkeys(&[&path]), (0, LISTED.to_owned() + &ended(&path, "5 pieces, to its end")));
+    let path = store("listed_wide.root", &wide_root());
+    assert_eq!(rootkeys(&[&path]), (0, LISTED_WIDE.to_owned() + &ended(&path, "5 pieces, to its end")));
     let bare = store("bare.root", &[0; 100]);
     assert_eq!(rootkeys(&[&bare]), (0, ended(&bare, "0 pieces, to its end")));
 }
@@ -85,7 +95,7 @@ fn several_files() {
 #[test]
 fn names_are_escaped() {
     let mut rng = Rng::new(50);
-    let mut key = plain_key_of(&mut rng, 100, [0; 3], 7);
+    let mut key = versioned_key(&mut rng, 4, 100, [0; 3], 7);
     key.strings = [b"A B".to_vec(), b"\x1b[31m\n\xff".to_vec(), vec![]];
     key.keylen = key.sum() as u16;
     (key.nbytes, key.cycle, key.datime) = (key.keylen.into(), 0xffff, 0);

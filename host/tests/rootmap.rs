@@ -3,8 +3,8 @@
 mod root_folder;
 
 use kirovadzun_host::ffi::{number, part};
-use kirovadzun_host::gen::files::{one_root_plan, plan, Item, Role, SMALL};
-use kirovadzun_host::gen::{damage, one_root, Rng, ONE_ROOT_LIST};
+use kirovadzun_host::gen::files::{one_root_plan, plan, wide_root_plan, Item, Role, SMALL};
+use kirovadzun_host::gen::{damage, one_root, wide_root, Rng, ONE_ROOT_LIST, WIDE_ROOT_LIST};
 use kirovadzun_host::model::audit::audit;
 use root_folder::root_files;
 use std::fs;
@@ -12,7 +12,7 @@ use std::io::Write;
 use std::path::Path;
 use std::process::{Command, Stdio};
 
-const MOST_BYTES: usize = 49_152;
+const MOST_BYTES: usize = 32_768;
 const ROWS: usize = 1024;
 
 /// What the proved program prints. Its input is no longer than a pipe holds, or is all read.
@@ -69,18 +69,20 @@ fn gaps(pieces: usize) -> Vec<u8> {
 #[test]
 fn one_root_as_document_01_has_it() {
     assert_eq!(printed(&one_root()), ONE_ROOT_LIST);
+    assert_eq!(printed(&wide_root()), WIDE_ROOT_LIST);
 }
 
 #[test]
 fn one_root_damaged() {
-    let whole = one_root();
-    for at in 0..whole.len() {
-        let mut file = whole.clone();
-        file[at] ^= 1 << (at % 8);
-        compare(&file);
-    }
-    for end in (0..whole.len()).step_by(7) {
-        compare(&whole[..end]);
+    for whole in [one_root(), wide_root()] {
+        for at in 0..whole.len() {
+            let mut file = whole.clone();
+            file[at] ^= 1 << (at % 8);
+            compare(&file);
+        }
+        for end in (0..whole.len()).step_by(7) {
+            compare(&whole[..end]);
+        }
     }
 }
 
@@ -96,6 +98,16 @@ fn as_many_pieces_as_rows_and_one_more() {
 fn as_many_bytes_as_are_taken_and_one_more() {
     for len in [MOST_BYTES - 1, MOST_BYTES, MOST_BYTES + 1, MOST_BYTES + 20_000] {
         compare(&vec![0; len]);
+    }
+    for form in [one_root_plan, wide_root_plan] {
+        let sizes = |end: usize| {
+            let mut plan = form();
+            let rest = plan.build().bytes.len();
+            plan.items[1].data.extend(vec![1; end - rest]);
+            plan.build().bytes
+        };
+        assert!(printed(&sizes(MOST_BYTES)).starts_with("passed 5\n"));
+        assert_eq!(printed(&sizes(MOST_BYTES + 1)), "input too long\n");
     }
 }
 
@@ -115,6 +127,11 @@ fn random_files() {
 #[test]
 fn files_written_by_root() {
     for path in root_files().unwrap_or_default() {
-        compare(&fs::read(path).unwrap());
+        let file = fs::read(&path).unwrap();
+        compare(&file);
+        // Its baskets have keys with eight-byte offsets.
+        if path.ends_with("advanced_zlib.root") {
+            assert!(printed(&file).starts_with("passed 18\n"));
+        }
     }
 }

@@ -3,7 +3,7 @@
 
 use kirovadzun_host::compare::Tally;
 use kirovadzun_host::gen::files::{plan, SMALL};
-use kirovadzun_host::gen::{damage, one_root, Rng};
+use kirovadzun_host::gen::{damage, one_root, wide_root, Rng};
 use kirovadzun_host::model::audit::{audit, pieces};
 use kirovadzun_host::model::rules;
 
@@ -18,16 +18,17 @@ fn agree(tally: &mut Tally, file: &[u8]) {
 #[test]
 fn each_byte_of_one_root() {
     let mut tally = Tally::new("second audit, one.root");
-    let file = one_root();
-    agree(&mut tally, &file);
-    for at in 0..file.len() {
-        for change in [1, 0x80, 0xff] {
-            let mut changed = file.clone();
-            changed[at] ^= change;
-            agree(&mut tally, &changed);
+    for file in [one_root(), wide_root()] {
+        agree(&mut tally, &file);
+        for at in 0..file.len() {
+            for change in [1, 0x80, 0xff] {
+                let mut changed = file.clone();
+                changed[at] ^= change;
+                agree(&mut tally, &changed);
+            }
         }
     }
-    tally.finish(1_000, &[0, 2, 3, 4, 5, 6, 8, 9, 10, 12, 13]);
+    tally.finish(2_000, &[0, 2, 3, 4, 5, 6, 8, 9, 10, 12, 13]);
 }
 
 #[test]

@@ -9,7 +9,7 @@ use std::thread;
 const ROUNDS: usize = 200;
 
 /// An audit with so many rows: number, place, count and the tables.
-fn audited(file: &[u8], rows: usize) -> ([u64; 3], Vec<u32>) {
+fn audited(file: &[u8], rows: usize) -> ([u64; 3], Vec<u64>) {
     let mut tables = vec![7; 3 * rows];
     let (start, rest) = tables.split_at_mut(rows);
     let (part, owner) = rest.split_at_mut(rows);

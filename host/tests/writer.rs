@@ -20,12 +20,13 @@ fn write_and_read(tally: &mut Tally, reads: &mut Tally, key: &NewKey, before: &[
 const STRINGS: [usize; 7] = [3, 0, 1, 254, 255, 256, 1000];
 /// Added to the sum; the last three stand for themselves.
 const NBYTES: [i64; 9] = [9, -1, 0, 1, -29, 3000, i32::MAX as i64, i32::MAX as i64 + 1, u32::MAX as i64];
-const VERSIONS: [u32; 9] = [4, 0, 1, 1000, 1001, 65535, 65536, 65537, u32::MAX];
+const VERSIONS: [u32; 13] = [4, 0, 1, 1000, 1001, 1004, 2000, 2001, 65535, 65536, 65537, 66540, u32::MAX];
 const OBJLENS: [u32; 5] = [9, 0, i32::MAX as u32, i32::MAX as u32 + 1, u32::MAX];
 const DATIMES: [u32; 3] = [1_960_757_165, 0, u32::MAX];
 const CYCLES: [i32; 11] = [1, 0, -1, 32767, 32768, -32768, -32769, 65535, 65536, i32::MAX, i32::MIN];
-const SEEK_KEYS: [u64; 9] = [100, 0, 1, 257, (1 << 32) - 1, 1 << 32, (1 << 32) + 100, (1 << 63) + 100, u64::MAX];
-const SEEK_PDIRS: [u64; 5] = [100, 0, (1 << 32) - 1, 1 << 32, u64::MAX];
+const SEEK_KEYS: [u64; 10] =
+    [100, 0, 1, 257, (1 << 32) - 1, 1 << 32, (1 << 32) + 100, (1 << 63) + 100, u64::MAX - 44, u64::MAX];
+const SEEK_PDIRS: [u64; 6] = [100, 0, (1 << 32) - 1, 1 << 32, 1 << 63, u64::MAX];
 /// Added to SeekKey + Nbytes; the last two stand for themselves.
 const ROOMS: [i64; 6] = [0, -1, 1, 40, 0, 1];
 
@@ -48,7 +49,8 @@ const VALUES: [usize; INPUTS] = [
 /// Runs on a key with the chosen values, and the length of its buffer.
 fn with_key(choice: [usize; INPUTS], text: &[u8], run: impl FnOnce(&NewKey, usize)) {
     let [class, name, title] = [0, 1, 2].map(|i| &text[1000 * i..][..STRINGS[choice[i]]]);
-    let sum = 29 + class.len() + name.len() + title.len();
+    let wide = VERSIONS[choice[4]] > 1000;
+    let sum = if wide { 37 } else { 29 } + class.len() + name.len() + title.len();
     let nbytes = match NBYTES[choice[3]] {
         near if near < 4000 => (sum as i64 + near) as u32,
         far => far as u32,
@@ -121,9 +123,9 @@ fn random_keys() {
     let mut reads = Tally::new("read_piece, the headers written");
     let mut rng = Rng::new(62);
     for _ in 0..60_000 {
-        let at = rng.below(300) as u32;
+        let at = rng.below(300) as u64;
         let raw = gen::plain_key(&mut rng, at);
-        let room = (at + raw.nbytes) as usize + rng.below(30);
+        let room = (at + u64::from(raw.nbytes)) as usize + rng.below(30);
         let room = if rng.once_in(8) { room.saturating_sub(rng.below(60)) } else { room };
         let before = rng.bytes(room);
         let mut key = raw.to_write();
@@ -142,7 +144,7 @@ fn spoil(rng: &mut Rng, key: &mut NewKey) {
     let wide = rng.u64() >> rng.below(64);
     match rng.below(6) {
         0 => key.nbytes = narrow,
-        1 => key.version = narrow,
+        1 => key.version = if rng.once_in(2) { narrow } else { rng.below(2004) as u32 },
         2 => key.objlen = narrow,
         3 => key.cycle = rng.u32() as i32 >> rng.below(32),
         4 => key.seek_key = wide,

@@ -1,6 +1,5 @@
 pub mod Fills
 pub mod Listings
-pub mod Partitions
 pub mod Rulings
 pub mod Turns
 pub mod Verdicts

@@ -1,37 +1,26 @@
 -- One copy of a keys list, and copies one after the other.
-use Prim.Native.Nat.{ℕ, suc, _+_, _-_, _<_, _≤_}
-use mathlib.Core.Bool.{Bool, true, false, not}
+use Prim.Native.Nat.{ℕ, suc, _-_, _<_, _≤_}
 use mathlib.Core.List.{List}
 use mathlib.Core.Logic.{⊎-elim}
 use mathlib.Core.Path.{_≡_, refl, sym, ap, _∙_, subst}
 use native.Mathlib.Omega.{arith}
 use borrow.Author.Tests.{eq-eqb, ne-eqb, le-leb, lt-leb}
-use lib.Dec.{T, leb}
+use lib.Dec.{leb}
 use lib.ListN.{length, getD, set, length-set}
 use lib.Seq.{getD-set-other}
-use Rattle.wire.specs.Check.{All, pick}
-use Rattle.wire.proofs.Checks.{yes-all, not-all}
-use Rattle.key.specs.Piece.{pieceAt}
-use Rattle.key.specs.declared.header.Key.{Key}
-use Rattle.key.specs.declared.header.Header.the-variants.{Good, Bad}
-use Rattle.key.specs.declared.piece.Piece.the-variants.{Record}
-use Rattle.keylist.specs.Keys.{copyIn}
-use Rattle.wire.specs.Name.{tDirectory}
-use Rattle.record.specs.Name.{sameBytes, named}
-use Rattle.record.proofs.Tests.{passed}
-use Rattle.rules.specs.Entry.{isRecord, entryFits}
-use Rattle.rules.specs.Row.{starts}
-use Rattle.rules.specs.Turn.{rowOf, Turn, going, stop, andThen, listedMark, onCopy, copyTurn, copies}
+use Rattle.wire.specs.Check.{pick}
+use Rattle.wire.specs.Number.{lesser}
+use Rattle.wire.proofs.Checks.{below-or}
+use Rattle.wire.proofs.Numbers.{lesser-within}
+use Rattle.rules.specs.Turn.{Turn, going, stop, andThen, copyTurn, copies}
 use Rattle.rules.proofs.Items.{same?}
-use Rattle.rules.proofs.Rows.{start-there, no-start, row-of}
-use Rattle.rows.specs.Row.{Rises, RowOf}
-use Rattle.rows.specs.declared.Row.{Row}
-use Rattle.rows.specs.declared.Row.the-variants.{At, Nothing}
-use Rattle.audit.specs.Listing.{Step, Ran, given, copyStep, Tested, NoneBelow, NoOther, Tables}
-use Rattle.audit.specs.declared.keys.Span.{Span}
-use Rattle.audit.specs.declared.keys.Claim.{Claim}
-use Rattle.audit.specs.declared.keys.Entry.{Entry}
-use Rattle.audit.specs.declared.keys.Entry.the-variants as entry
+use Rattle.rows.specs.Row.{Rises}
+use Rattle.copies.specs.Copy.{given, copyStep, Tests}
+use Rattle.copies.specs.declared.Span.{Span}
+use Rattle.copies.specs.declared.Claim.{Claim}
+use Rattle.copies.specs.declared.Entry.{Entry}
+use Rattle.copies.specs.declared.Entry.the-variants as entry
+use Rattle.audit.specs.Listing.{Ran, NoneBelow, NoOther, Tables}
 use Rattle.audit.specs.declared.keys.Listed.{Listed}
 use Rattle.audit.specs.declared.keys.Listed.the-variants.{Next, Fault}
 
@@ -77,58 +66,6 @@ faulted ps us vs n p e = (ran-fault us vs n p e, quiet-fault ps us n p)
 pub tables-kept : {qs ps os us vs : List ℕ} → Tables qs ps os → length us ≡ length ps → length vs ≡ length os → Tables qs us vs
 tables-kept t e f = record { rising = t .rising; parts = e ∙ t .parts; owners = f ∙ t .owners }
 
--- a row that was sought
-pub record Sought (qs : List ℕ) (p i : ℕ) : Type 0 where
-  pub within : i < length qs
-  pub row : rowOf qs p ≡ i
-  pub start : starts qs p ≡ true
-
-pub sought : (qs : List ℕ) (p i : ℕ) {r : Row} → Rises qs → RowOf qs p r → r ≡ At i → Sought qs p i
-sought qs p i up h e =
-    let g : RowOf qs p (At i) = rw e at h in
-    record { within = g .0; row = row-of qs p i up (g .0) (g .1); start = start-there qs p i (g .0) (g .1) }
-
-pub no-row : (qs : List ℕ) (p : ℕ) {r : Row} → Rises qs → RowOf qs p r → r ≡ Nothing → starts qs p ≡ false
-no-row qs p up h e = let g : RowOf qs p Nothing = rw e at h in no-start qs p (g up)
-
-pub never : (b : Bool) {A : Type 0} → b ≡ false → b ≡ true → A
-never b e f = absurd (subst T (sym (sym e ∙ f)) tt)
-
--- the part of a listed record
-pub mark-is : (s : List ℕ) (p : ℕ) {k : Key} {m : ℕ} → pieceAt s p ≡ Record k → m ≡ pick (named s (k .class) tDirectory) 14 5
-    → m ≡ listedMark s p
-unfolding listedMark
-mark-is s p e f = rw e f
-
-pub marked : (b : Bool) {n : Bool} → b ≡ n → b ≡ true → _≡_ {A = ℕ} 14 (pick n 14 5)
-marked b e f = rw (sym e ∙ f)
-
-pub not-marked : (b : Bool) {n : Bool} → b ≡ n → b ≡ false → _≡_ {A = ℕ} 5 (pick n 14 5)
-not-marked b e f = rw (sym e ∙ f)
-
--- the tests that a copy passed
-pub copy-passed : (s qs : List ℕ) (d c : ℕ) (k : Key) {l : Key} {b : Bool} → starts qs (k .seekkey) ≡ true → pieceAt s (k .seekkey) ≡ Record l
-    → b ≡ sameBytes s c (k .seekkey) (k .keylen) → not b ≡ false → k .seekpdir ≡ d → All (entryFits s qs d c k)
-copy-passed s qs d c k st e f g h = (st, (ap isRecord e, (passed _ _ f g, (h, tt))))
-
--- the test of a copy
-module _ (s qs : List ℕ) (l : Span) (c : ℕ) where
-  pub copy-bad : Bad ≡ copyIn s c (l .end) → Tested qs (copyStep s qs l c) (entry.Fault 12 (l .seek))
-  unfolding copyTurn
-  copy-bad e ps os = ap (onCopy s qs (l .dir) (l .seek) c ps os) (sym e)
-
-  module _ {k : Key} (e : Good k ≡ copyIn s c (l .end)) where
-    by-key : (ps os : List ℕ) → copyStep s qs l c ps os ≡ onCopy s qs (l .dir) (l .seek) c ps os (Good k)
-    unfolding copyTurn
-    by-key ps os = ap (onCopy s qs (l .dir) (l .seek) c ps os) (sym e)
-
-    pub copy-wrong : (All (entryFits s qs (l .dir) c k) → ⊥) → Tested qs (copyStep s qs l c) (entry.Fault 13 c)
-    copy-wrong h ps os = by-key ps os ∙ rw (not-all (entryFits s qs (l .dir) c k) h)
-
-    pub copy-fits : All (entryFits s qs (l .dir) c k) → {i m : ℕ} → Sought qs (k .seekkey) i → m ≡ listedMark s (k .seekkey)
-        → Tested qs (copyStep s qs l c) (entry.Fits (record { row = i; part = m; dir = l .dir; next = c + k .keylen; place = c }))
-    copy-fits h o f = (o .within, λ ps os. by-key ps os ∙ rw (yes-all (entryFits s qs (l .dir) c k) h, o .row, sym f))
-
 -- a row that is set: no other holds a directory that was found
 pub row-set : (ps os : List ℕ) (i m d c : ℕ) {x : Turn} → i < length ps → x ≡ going (set ps i m) (set os i d) c
     → Ran x (Next c i) (set ps i m) (set os i d) × NoOther ps (set ps i m) (Next c i)
@@ -153,25 +90,27 @@ module _ (g : Claim) (ps os : List ℕ) where
   claim-made l z = row-set ps os (g .row) (g .part) (g .dir) (g .next) l (rw (eq-eqb (getD ps (g .row) 0) 7 z))
 
 -- one copy, from its test
-module _ (qs : List ℕ) (step : Step) (ps os us vs : List ℕ) {x : Entry} (h : Tested qs step x) where
-  pub copy-row : {g : Claim} → x ≡ entry.Fits g → g .row < length qs
-  copy-row {g} e = let t : Tested qs step (entry.Fits g) = rw e at h in t .0
-
+module _ {s qs : List ℕ} {l : Span} {c : ℕ} {x : Entry} (h : Tests s qs l c x) (up : Rises qs) (ps os us vs : List ℕ) where
   pub copy-gave : {g : Claim} (r : Listed) → x ≡ entry.Fits g → Ran (given g ps os) r us vs × NoOther ps us r
-      → Ran (step ps os) r us vs × NoOther ps us r
-  copy-gave {g} r e k = let t : Tested qs step (entry.Fits g) = rw e at h in (rw (t .1 ps os) (k .0), k .1)
+      → Ran (copyStep s qs l c ps os) r us vs × NoOther ps us r
+  copy-gave r e k = (rw (h .step up ps os, e) (k .0), k .1)
 
-  pub copy-stops : {c p : ℕ} → x ≡ entry.Fault c p → Ran (step ps os) (Fault c p) us vs × NoOther ps us (Fault c p)
-  copy-stops {c} {p} e = let t : Tested qs step (entry.Fault c p) = rw e at h in copy-stopped ps us vs c p (t ps os)
+  pub copy-stops : {n p : ℕ} → x ≡ entry.Fault n p → Ran (copyStep s qs l c ps os) (Fault n p) us vs × NoOther ps us (Fault n p)
+  copy-stops {n} {p} e = copy-stopped ps us vs n p (h .step up ps os ∙ rw e)
 
--- the row that is told where a directory was found, and where none was
-pub found-here : (m i n : ℕ) → 8 ≤ m → _≡_ {A = ℕ} i (pick (leb 8 m) i n)
-found-here m i n l = rw (le-leb 8 m l)
+-- the lower row, if a directory was found in the first
+pub found-low : (m i n : ℕ) {f : ℕ} → f ≡ pick (leb 8 m) (lesser i n) n → (f ≤ n) × (8 ≤ m → f ≤ i)
+found-low m i n {f} e =
+    let w = lesser-within i n in
+    ⊎-elim
+    (λ (l : m < 8). let x : f ≡ n = e ∙ rw (lt-leb 8 m l) in (omega arith, λ h. absurd (omega arith)))
+    (λ (l : 8 ≤ m). let x : f ≡ lesser i n = e ∙ rw (le-leb 8 m l) in (omega (arith, x, w), λ h. omega (arith, x, w)))
+    (below-or m 8)
 
-pub found-low : (m i n f g : ℕ) → f ≡ pick (leb 8 m) i n → g ≤ f → 8 ≤ m → g ≤ i
-found-low m i n f g e l h = let x = e ∙ sym (found-here m i n h) in omega arith
+pub found-here : (m i n : ℕ) {f : ℕ} → 8 ≤ m → f ≡ lesser i n → f ≡ pick (leb 8 m) (lesser i n) n
+found-here m i n l e = rw (le-leb 8 m l) e
 
-pub found-none : (m i n : ℕ) → m < 8 → _≡_ {A = ℕ} n (pick (leb 8 m) i n)
+pub found-none : (m i n : ℕ) → m < 8 → _≡_ {A = ℕ} n (pick (leb 8 m) (lesser i n) n)
 found-none m i n l = rw (lt-leb 8 m l)
 
 pub told-row : (ps us : List ℕ) {r : Listed} {at row : ℕ} → r ≡ Next at row → NoOther ps us r

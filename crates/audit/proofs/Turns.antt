@@ -10,29 +10,27 @@ use borrow.Author.Tests.{eq-eqb, ne-eqb, eqb-true, eqb-false, le-leb, lt-leb}
 use lib.Dec.{eqb}
 use lib.ListN.{length, getD, set, take, drop, length-set, length-drop}
 use lib.Seq.{getD-set-same, getD-set-other, take-all}
-use Rattle.wire.specs.Number.{numAt}
-use Rattle.wire.proofs.Checks.{yes-all, not-all, below-or}
-use Rattle.directory.specs.Dir.{headIn, subIn, dirOf, noKeys}
-use Rattle.keylist.specs.Keys.{listIn}
-use Rattle.keylist.proofs.Records.{list-lies}
-use Rattle.keylist.specs.declared.Data.{Data}
-use Rattle.keylist.specs.declared.Data.the-variants as span
+use Rattle.wire.specs.Number.{numAt, lesser}
+use Rattle.wire.proofs.Checks.{below-or}
+use Rattle.wire.proofs.Numbers.{lesser-within}
+use Rattle.directory.specs.Dir.{headIn, subIn, dirOf}
 use Rattle.directory.specs.declared.Dir.{Dir}
 use Rattle.directory.specs.declared.Dir.the-variants as dir
 use Rattle.directory.specs.declared.DirHead.{DirHead}
 use Rattle.fileheader.specs.declared.FileHead.{FileHead}
-use Rattle.rules.specs.Row.{starts}
-use Rattle.rules.specs.Turn.{Turn, going, stop, andThen, copies, ended, dataTurn, onData, keysIn, keysTurn, onDir, dirTurn, settle, roundTurn}
+use Rattle.rules.specs.Turn.{Turn, going, stop, andThen, copies, ended, dataTurn, keysTurn, onDir, dirTurn, settle, roundTurn}
 use Rattle.rules.specs.Turn.{nextRow, rounds}
 use Rattle.rules.proofs.Rows.{next-row-at, next-row-none, next-row, rounds-over, rounds-more}
 use Rattle.rules.proofs.Runs.{gave}
-use Rattle.audit.specs.Listing.{Ran, given, Heading, Found, NoneBelow, Done, DoneTo, Tables}
-use Rattle.audit.specs.declared.keys.Claim.{Claim}
-use Rattle.audit.specs.declared.keys.Keys.{Keys}
-use Rattle.audit.specs.declared.keys.Keys.the-variants as keys
+use Rattle.rows.specs.Row.{Rises}
+use Rattle.copies.specs.Copy.{given, keysStep, Finds}
+use Rattle.copies.specs.declared.Claim.{Claim}
+use Rattle.copies.specs.declared.Keys.{Keys}
+use Rattle.copies.specs.declared.Keys.the-variants as keys
+use Rattle.audit.specs.Listing.{Ran, NoneBelow, Done, DoneTo, Tables}
 use Rattle.audit.specs.declared.keys.Listed.{Listed}
 use Rattle.audit.specs.declared.keys.Listed.the-variants.{Next, Fault}
-use Rattle.audit.proofs.Listings.{ran-next, ran-fault, next-is, fault-is, quiet-next, from-quiet, faulted, tables-kept, Below, Sought}
+use Rattle.audit.proofs.Listings.{ran-next, ran-fault, next-is, fault-is, quiet-next, from-quiet, faulted, tables-kept, Below}
 
 -- the data of a keys list
 module _ (s qs : List ℕ) (d seek a end : ℕ) (ps os : List ℕ) (c : ℕ) where
@@ -61,42 +59,6 @@ module _ (s qs : List ℕ) (d seek a end : ℕ) (ps os : List ℕ) (c : ℕ) whe
         pub data-ended : at ≡ end → Ran (dataTurn s qs d seek a end ps os c) (Next at low) us vs × NoneBelow ps us (Next at low)
         data-ended z = (ran-next us vs at low (at-end ∙ rw (eq-eqb at end z)), rw f at (h .1))
 
--- the record of a keys list, from its row
-module _ (s qs : List ℕ) (d : ℕ) (dh : DirHead) where
-  pub no-keys : dh .seekkeys + dh .nbyteskeys ≡ 0 → Found s qs d dh keys.Nothing
-  unfolding keysTurn
-  no-keys e ps os = rw (yes-all (noKeys dh) (omega arith))
-
-  module _ (z : dh .seekkeys + dh .nbyteskeys ≡ 0 → ⊥) where
-    by-data : {x : Data} → keysIn s qs d dh ≡ x → (ps os : List ℕ) → keysTurn s qs d dh ps os ≡ onData s qs d (dh .seekkeys) ps os x
-    unfolding keysTurn
-    by-data e ps os = rw (not-all (noKeys dh) (λ a. z (omega (arith, a)))) (ap (onData s qs d (dh .seekkeys) ps os) e)
-
-    pub keys-nowhere : starts qs (dh .seekkeys) ≡ false → Found s qs d dh (keys.Fault 12 (dh .seekkeys))
-    unfolding keysIn
-    keys-nowhere e = by-data {x = span.Bad} (rw e)
-
-    module _ {i : ℕ} (o : Sought qs (dh .seekkeys) i) {p : ℕ} (f : p ≡ d) where
-      somewhere : {x : Data} → x ≡ listIn s (dh .seekkeys) (dh .nbyteskeys) p → keysIn s qs d dh ≡ x
-      unfolding keysIn
-      somewhere g = rw (o .start) (rw f at (sym g))
-
-      pub keys-bad : span.Bad ≡ listIn s (dh .seekkeys) (dh .nbyteskeys) p → Found s qs d dh (keys.Fault 12 (dh .seekkeys))
-      keys-bad g = by-data (somewhere g)
-
-      pub keys-held : {a end : ℕ} → span.Held a end ≡ listIn s (dh .seekkeys) (dh .nbyteskeys) p
-          → Found s qs d dh (keys.Held (record { row = i; part = 4; dir = d; next = a + 4; place = p }) a end)
-      keys-held {a} {end} g =
-          let l = list-lies s (dh .seekkeys) (dh .nbyteskeys) p g in
-          record {
-            row = o .within;
-            part = refl;
-            begins = l .0;
-            ends = l .1;
-            turn = λ ps os. by-data (somewhere g) ps os ∙ rw (o .row, f);
-            next = refl;
-          }
-
 -- a row that was given part 4 holds no directory
 below-set : (ps us : List ℕ) (i low : ℕ) → i < length ps → Below (set ps i 4) us low → Below ps us low
 below-set ps us i low l b j k h = go (eqb j i) refl
@@ -111,42 +73,41 @@ quiet-set ps us i (Next at low) l h = below-set ps us i low l h
 quiet-set ps us i (Fault n p) l h = tt
 
 -- the keys list, from what was found
-module _ (s qs : List ℕ) (d : ℕ) (dh : DirHead) (ps os : List ℕ) {x : Keys} (h : Found s qs d dh x) where
+module _ {s qs : List ℕ} {d : ℕ} {dh : DirHead} {x : Keys} (h : Finds s qs d dh x) (up : Rises qs) (ps os : List ℕ) where
+  keys-are : {y : Keys} → x ≡ y → keysTurn s qs d dh ps os ≡ keysStep s qs d (dh .seekkeys) y ps os
+  keys-are e = h .step up ps os ∙ ap (λ (y : Keys). keysStep s qs d (dh .seekkeys) y ps os) e
+
   pub keys-none : (low : ℕ) → x ≡ keys.Nothing → Ran (keysTurn s qs d dh ps os) (Next 0 low) ps os × NoneBelow ps ps (Next 0 low)
-  keys-none low e =
-      let f : Found s qs d dh keys.Nothing = rw e at h in
-      (ran-next ps os 0 low (f ps os), quiet-next ps ps 0 low (λ i l y. y))
+  keys-none low e = (ran-next ps os 0 low (keys-are e), quiet-next ps ps 0 low (λ i l y. y))
 
-  pub keys-stops : (us vs : List ℕ) {c p : ℕ} → x ≡ keys.Fault c p
-      → Ran (keysTurn s qs d dh ps os) (Fault c p) us vs × NoneBelow ps us (Fault c p)
-  keys-stops us vs {c} {p} e = let f : Found s qs d dh (keys.Fault c p) = rw e at h in faulted ps us vs c p (f ps os)
+  module _ (us vs : List ℕ) where
+    pub keys-stops : {n p : ℕ} → x ≡ keys.Fault n p → Ran (keysTurn s qs d dh ps os) (Fault n p) us vs × NoneBelow ps us (Fault n p)
+    keys-stops {n} {p} e = faulted ps us vs n p (keys-are e)
 
-  pub keys-heading : {g : Claim} {a end : ℕ} → x ≡ keys.Held g a end → Heading s qs d dh g a end
-  keys-heading {g} {a} {end} e = let f : Found s qs d dh (keys.Held g a end) = rw e at h in f
+    module _ {g : Claim} {a end : ℕ} (f : x ≡ keys.Held g a end) (r : Listed) (j : Ran (given g ps os) r us vs) where
+      by-given : {t : Turn} → given g ps os ≡ t → keysTurn s qs d dh ps os ≡ andThen (dataTurn s qs d (dh .seekkeys) a end) t
+      by-given e = keys-are f ∙ ap (andThen (dataTurn s qs d (dh .seekkeys) a end)) e
 
-module _ {s qs : List ℕ} {d : ℕ} {dh : DirHead} {g : Claim} {a end : ℕ} (k : Heading s qs d dh g a end) (ps os us vs : List ℕ)
-    (r : Listed) (h : Ran (given g ps os) r us vs) where
-  pub keys-late : {n p : ℕ} → r ≡ Fault n p → Ran (keysTurn s qs d dh ps os) r us vs × NoneBelow ps us r
-  keys-late {n} {p} e =
-      let f = fault-is (given g ps os) us vs n p (rw e at h) in
-      rw e (faulted ps us vs n p (k .turn ps os ∙ ap (andThen (dataTurn s qs d (dh .seekkeys) a end)) f))
+      pub keys-late : {n p : ℕ} → r ≡ Fault n p → Ran (keysTurn s qs d dh ps os) r us vs × NoneBelow ps us r
+      keys-late {n} {p} e = rw e (faulted ps us vs n p (by-given (fault-is (given g ps os) us vs n p (rw e at j))))
 
-  module _ {at low : ℕ} (e : r ≡ Next at low) where
-    gone : given g ps os ≡ going us vs at
-    gone = next-is (given g ps os) us vs at low (rw e at h)
+      module _ {at low : ℕ} (e : r ≡ Next at low) where
+        gone : given g ps os ≡ going us vs at
+        gone = next-is (given g ps os) us vs at low (rw e at j)
 
-    made : (us ≡ set ps (g .row) 4) × (at ≡ a + 4)
-    made =
-        let f = gave (g .row) (g .part) (g .dir) (g .next) (g .place) ps os gone in
-        (f .1 .0 ∙ ap (set ps (g .row)) (k .part), f .1 .1 .1 ∙ k .next)
+        made : (us ≡ set ps (g .row) 4) × (at ≡ a + 4)
+        made =
+            let k = h .held g a end f in
+            let z = gave (g .row) (g .part) (g .dir) (g .next) (g .place) ps os gone in
+            (z .1 .0 ∙ ap (set ps (g .row)) (k .part), z .1 .1 .1 ∙ k .next)
 
-    pub keys-ran : g .row < length ps → (us′ vs′ : List ℕ) (q : Listed)
-        → Ran (dataTurn s qs d (dh .seekkeys) a end us vs (a + 4)) q us′ vs′ × NoneBelow us us′ q
-        → Ran (keysTurn s qs d dh ps os) q us′ vs′ × NoneBelow ps us′ q
-    keys-ran l us′ vs′ q j = (
-      rw (k .turn ps os ∙ ap (andThen (dataTurn s qs d (dh .seekkeys) a end)) gone ∙ ap (dataTurn s qs d (dh .seekkeys) a end us vs) (made .1)) (j .0),
-      quiet-set ps us′ (g .row) q l (rw (made .0) at (j .1)),
-    )
+        pub keys-ran : g .row < length ps → (us′ vs′ : List ℕ) (q : Listed)
+            → Ran (dataTurn s qs d (dh .seekkeys) a end us vs (a + 4)) q us′ vs′ × NoneBelow us us′ q
+            → Ran (keysTurn s qs d dh ps os) q us′ vs′ × NoneBelow ps us′ q
+        keys-ran l us′ vs′ q m = (
+          rw (by-given gone ∙ ap (dataTurn s qs d (dh .seekkeys) a end us vs) (made .1)) (m .0),
+          quiet-set ps us′ (g .row) q l (rw (made .0) at (m .1)),
+        )
 
 -- the header of the directory at a place
 module _ (s : List ℕ) (h : FileHead) (p parent : ℕ) where
@@ -154,15 +115,15 @@ module _ (s : List ℕ) (h : FileHead) (p parent : ℕ) where
   unfolding dirOf
   head-dir e f = rw (eq-eqb p 100 e) f
 
-  pub sub-dir : {r : Dir} {q o : ℕ} → (p ≡ 100 → ⊥) → q ≡ p → o ≡ parent → r ≡ subIn s q o → r ≡ dirOf s h p parent
+  pub sub-dir : {r : Dir} → (p ≡ 100 → ⊥) → r ≡ subIn s p parent → r ≡ dirOf s h p parent
   unfolding dirOf
-  sub-dir z e g f = rw (ne-eqb p 100 z) (f ∙ rw (e, g) refl)
+  sub-dir z f = rw (ne-eqb p 100 z) f
 
 -- the directory in a row
 module _ (s : List ℕ) (h : FileHead) (qs : List ℕ) (row : ℕ) (ps os : List ℕ) where
-  pub dir-bad : {p : ℕ} → p ≡ getD qs row 0 → dir.Bad ≡ dirOf s h (getD qs row 0) (getD os row 0) → dirTurn s h qs row ps os ≡ stop 11 p
+  pub dir-bad : dir.Bad ≡ dirOf s h (getD qs row 0) (getD os row 0) → dirTurn s h qs row ps os ≡ stop 11 (getD qs row 0)
   unfolding dirTurn
-  dir-bad e f = ap (onDir s qs (getD qs row 0) ps os) (sym f) ∙ ap (stop 11) (sym e)
+  dir-bad f = ap (onDir s qs (getD qs row 0) ps os) (sym f)
 
   pub dir-held : {dh : DirHead} (r : Listed) (us vs : List ℕ) → dir.Held dh ≡ dirOf s h (getD qs row 0) (getD os row 0)
       → Ran (keysTurn s qs (getD qs row 0) dh ps os) r us vs × NoneBelow ps us r → Ran (dirTurn s h qs row ps os) r us vs × NoneBelow ps us r
@@ -205,19 +166,21 @@ module _ (s : List ℕ) (h : FileHead) (qs : List ℕ) (row : ℕ) (ps os : List
       let f = fault-is (dirTurn s h qs row ps os) us vs n p (rw e at (g .0)) in
       rw e (ran-fault us vs n p (ap (andThen (settle row (getD ps row 0 - 8))) f), tt)
 
-  pub round-done : {at low : ℕ} → r ≡ Next at low → (m least : ℕ) → m ≡ getD ps row 0 - 8 → Done ps row → row < length ps
-      → length us ≡ length ps → least ≤ low → least ≤ row
+  pub round-done : {at low m : ℕ} → r ≡ Next at low → (least : ℕ) → least ≡ lesser row low → m ≡ getD ps row 0 - 8 → Done ps row
+      → length ps ≡ length qs → row < length qs → length us ≡ length ps
       → Ran (roundTurn s h qs row ps os) (Next at least) (set us row m) vs × DoneTo (set us row m) (Next at least)
   unfolding DoneTo roundTurn
-  round-done {at} {low} e m least f d l k o z =
+  round-done {at} {low} {m} e least w f d z l k =
       let x = next-is (dirTurn s h qs row ps os) us vs at low (rw e at (g .0)) in
       let y = from-quiet ps us at low (rw e at (g .1)) in
-      let size = length-set us row m in (
+      let size = length-set us row m in
+      let o = lesser-within row low in (
         ran-next (set us row m) vs at least (ap (andThen (settle row (getD ps row 0 - 8))) x ∙ rw f refl),
         (
-          omega arith,
-          λ i j. rw (getD-set-other us row i m 0 (λ w. omega arith))
-              (⊎-elim (λ (v : getD us i 0 < 8). v) (λ (v : 8 ≤ getD us i 0). absurd (omega (arith, y i (omega arith) v, d .1 i (omega arith))))
+          omega (arith, w, o),
+          λ i j. rw (getD-set-other us row i m 0 (λ n. omega (arith, w, o)))
+              (⊎-elim (λ (v : getD us i 0 < 8). v)
+              (λ (v : 8 ≤ getD us i 0). absurd (omega (arith, y i (omega (arith, w, o)) v, d .1 i (omega (arith, w, o)))))
               (below-or (getD us i 0) 8)),
         ),
       )

@@ -28,13 +28,13 @@ use Rattle.rules.proofs.Demands.{demand}
 use Rattle.audit.specs.Listing.{Ran, Tables}
 use Rattle.audit.specs.Examined.{Answers, Begins, Filled}
 use Rattle.audit.specs.Tables.{roomOf, room, told, Audits}
-use Rattle.audit.specs.Walk.{over, Walked}
-use Rattle.audit.specs.declared.chain.Outcome.{Outcome}
+use Rattle.chain.specs.Walk.{over, Walked}
+use Rattle.chain.specs.declared.Outcome.{Outcome}
 use Rattle.audit.specs.declared.keys.Listed.{Listed}
-use Rattle.audit.specs.declared.chain.Outcome.the-variants as outcome
+use Rattle.chain.specs.declared.Outcome.the-variants as outcome
 use Rattle.audit.specs.declared.keys.Listed.the-variants.{Next, Fault}
 use Rattle.audit.proofs.Listings.{next-is, fault-is}
-use Rattle.audit.proofs.Partitions.{roomy, length-over}
+use Rattle.chain.proofs.Walks.{roomy, length-over}
 
 -- what examine promises
 abbrev pub Examined : Verdict → Answer → List ℕ → List ℕ → List ℕ → Type 0
@@ -137,7 +137,7 @@ entire s t u o e k =
     record { starts = f .0; good = sym o; partition = f .1; count = f .2; table = f .3 }
 
 module _ {s : List ℕ} {h : FileHead} {t u : List ℕ} {n : ℕ} (k : Entire s h t u n) where
-  pub entire-kept : length u ≡ length t
+  entire-kept : length u ≡ length t
   entire-kept = ap length (k .table) ∙ length-over (k .starts) t
 
   -- the room, as it was computed
@@ -152,6 +152,9 @@ module _ {s : List ℕ} {h : FileHead} {t u : List ℕ} {n : ℕ} (k : Entire s 
         told-refusal u x y (verdict-seven s (roomOf t v w) (k .good) (k .starts) (k .partition) m ∙ rw (k .count)) (λ z. absurd (omega arith))
 
   module _ {v w : List ℕ} (fit : Fits n t v w) where
+    pub entire-room : n ≤ length u
+    entire-room = omega (arith, fit .starts, entire-kept)
+
     entire-starts : take n u ≡ k .starts
     entire-starts = rw (k .table, roomy (k .starts) t (omega (arith, k .count, fit .starts))) (take-at (k .starts) _ n (sym (k .count)))
 

@@ -1,4 +1,3 @@
 pub mod Examined
 pub mod Listing
 pub mod Tables
-pub mod Walk

@@ -5,16 +5,11 @@ use mathlib.Core.List.{List}
 use mathlib.Core.Path.{_≡_}
 use lib.ListN.{length, getD}
 use Rattle.wire.specs.Lent.{Lent, before, after}
-use Rattle.directory.specs.declared.DirHead.{DirHead}
 use Rattle.fileheader.specs.declared.FileHead.{FileHead}
 use Rattle.rows.specs.Row.{Rises}
-use Rattle.rules.specs.Turn.{Turn, going, stop, andThen, give, copyTurn, copies, dataTurn, keysTurn, rounds}
-use Rattle.audit.specs.declared.keys.Span.{Span}
-use Rattle.audit.specs.declared.keys.Claim.{Claim}
-use Rattle.audit.specs.declared.keys.Entry.{Entry}
-use Rattle.audit.specs.declared.keys.Entry.the-variants as entry
-use Rattle.audit.specs.declared.keys.Keys.{Keys}
-use Rattle.audit.specs.declared.keys.Keys.the-variants as keys
+use Rattle.rules.specs.Turn.{Turn, going, stop, copies, dataTurn, rounds}
+use Rattle.copies.specs.Copy.{Step}
+use Rattle.copies.specs.declared.Span.{Span}
 use Rattle.audit.specs.declared.keys.Listed.{Listed}
 use Rattle.audit.specs.declared.keys.Listed.the-variants.{Next, Fault}
 
@@ -24,10 +19,7 @@ pub record Tables (start part owner : List ℕ) : Type 0 where
   pub parts : length part ≡ length start
   pub owners : length owner ≡ length start
 
--- a turn over the parts and owners that a step was lent: the answer and the tables are its; a refusal leaves the tables free
-abbrev pub Step : Type 0
-Step = List ℕ → List ℕ → Turn
-
+-- the turn of a step over the parts and owners that it was lent: the answer and the tables are its; a refusal leaves the tables free
 unfoldable pub Ran : Turn → Listed → List ℕ → List ℕ → Type 0
 Ran (going ps os c) (Next at low) us vs = (at ≡ c) × ((us ≡ ps) × (vs ≡ os))
 Ran (going ps os c) (Fault n p) us vs = ⊥
@@ -37,10 +29,7 @@ Ran (stop n p) (Fault m q) us vs = (m ≡ n) × (q ≡ p)
 abbrev pub Runs : Step → Lent → Lent → Listed → Type 0
 Runs step part owner r = Ran (step (before part) (before owner)) r (after part) (after owner)
 
--- a copy, some copies, and the data of a keys list
-abbrev pub copyStep : List ℕ → List ℕ → Span → ℕ → Step
-copyStep s qs l c ps os = copyTurn s qs (l .dir) (l .seek) (l .end) ps os c
-
+-- some copies, and the data of a keys list
 abbrev pub copiesStep : List ℕ → List ℕ → Span → ℕ → ℕ → Step
 copiesStep s qs l n c ps os = copies s qs (l .dir) (l .seek) (l .end) n ps os c
 
@@ -50,29 +39,6 @@ dataStep s qs l a ps os = dataTurn s qs (l .dir) (l .seek) a (l .end) ps os (a +
 -- all directories
 abbrev pub roundsStep : List ℕ → FileHead → List ℕ → Step
 roundsStep s h qs ps os = rounds s h qs (length qs) ps os 0
-
--- a claim is given
-abbrev pub given : Claim → Step
-given g = give (g .row) (g .part) (g .dir) (g .next) (g .place)
-
--- a step that a test of the bytes told: it gives, or it stops
-abbrev pub Tested : List ℕ → Step → Entry → Type 0
-Tested qs step (entry.Fits g) = (g .row < length qs) × ((ps os : List ℕ) → step ps os ≡ given g ps os)
-Tested qs step (entry.Fault c p) = (ps os : List ℕ) → step ps os ≡ stop c p
-
--- a keys list whose record was found
-pub record Heading (s qs : List ℕ) (d : ℕ) (dh : DirHead) (g : Claim) (from end : ℕ) : Type 0 where
-  pub row : g .row < length qs
-  pub part : g .part ≡ 4
-  pub begins : from ≤ end
-  pub ends : end ≤ length s
-  pub turn : (ps os : List ℕ) → keysTurn s qs d dh ps os ≡ andThen (dataTurn s qs d (dh .seekkeys) from end) (given g ps os)
-  pub next : g .next ≡ from + 4
-
-abbrev pub Found : List ℕ → List ℕ → ℕ → DirHead → Keys → Type 0
-Found s qs d dh keys.Nothing = (ps os : List ℕ) → keysTurn s qs d dh ps os ≡ going ps os 0
-Found s qs d dh (keys.Held g from end) = Heading s qs d dh g from end
-Found s qs d dh (keys.Fault c p) = (ps os : List ℕ) → keysTurn s qs d dh ps os ≡ stop c p
 
 -- below the row that is told, no directory was found
 unfoldable pub NoneBelow : List ℕ → List ℕ → Listed → Type 0

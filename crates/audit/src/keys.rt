@@ -5,28 +5,19 @@ ghost use lib.Dec.{leb};
 ghost use lib.ListN.{length};
 ghost use Rattle.wire.specs.Check.{pick};
 ghost use Rattle.wire.specs.Lent.{before, after};
-ghost use Rattle.wire.specs.Name.{tDirectory};
-ghost use Rattle.record.specs.Name.{named};
-ghost use Rattle.rows.specs.Row.{Rises};
-ghost use Rattle.rules.specs.Part.{dir, listed};
-ghost use Rattle.rules.specs.Turn.{found, keysTurn};
-ghost use Rattle.audit.specs.Listing.{given, Tested, Found, copyStep, copiesStep, dataStep};
-ghost use Rattle.audit.specs.Listing.{Runs, NoneBelow, NoOther, Tables};
+ghost use Rattle.wire.specs.Number.{lesser};
+ghost use Rattle.rules.specs.Turn.{keysTurn};
+ghost use Rattle.copies.specs.Copy.{given, copyStep};
+ghost use Rattle.audit.specs.Listing.{Runs, NoneBelow, NoOther, Tables, copiesStep, dataStep};
+use copies::Claim;
+use copies::Entry;
+use copies::Keys;
+use copies::Span;
+use copies::find_list;
+use copies::test_copy;
 use directory::DirHead;
-use key::header::Header;
-use key::header::Key;
-use key::piece::Piece;
-use key::piece::read_piece;
-use keylist::Data;
-use keylist::read_copy;
-use keylist::read_list;
-use record::is_directory;
-use record::same_at;
-use rows::Row;
-use rows::find_row;
-use rows::seek_row;
-use table::long;
 use wire::number::be32;
+use wire::number::least;
 
 // The next place of a list and a row, of a copy its own, else the lowest of a directory that was found; or the first
 // refusal.
@@ -35,57 +26,18 @@ pub enum Listed {
     Fault(u32, usize),
 }
 
-// A keys list: the place of its directory, its own, and the end of its data.
-pub struct Span {
-    pub dir: u32,
-    pub seek: u32,
-    pub end: usize,
-}
-
-// A record that is to have a part and an owner: its row and both; the next place of a list; the place of a refusal.
-pub struct Claim {
-    pub row: usize,
-    pub part: u32,
-    pub dir: u32,
-    pub next: usize,
-    pub place: usize,
-}
-
-// A copy: what it gives its record, or a refusal.
-pub enum Entry {
-    Fits(Claim),
-    Fault(u32, usize),
-}
-
-// A directory's keys list: none, what it gives its own record, with the start and end of its data, or a refusal.
-pub enum Keys {
-    Nothing,
-    Held(Claim, usize, usize),
-    Fault(u32, usize),
-}
-
-// The part of a record that is listed: 14 is a directory, found and not done.
-fn mark_of(file: &[u8], k: Key) -> u32
-    ensures { λ r. ⌜ r ≡ pick (named (before file) (k .class) tDirectory) (found dir) listed ⌝ }
-{
-    if is_directory(file, k.class) {
-        return 14;
-    }
-    5
-}
-
-// The row, if a directory was found in it; else another.
-fn found_row(mark: u32, row: usize, other: usize) -> usize
-    ensures { λ r. ⌜ r ≡ pick (leb 8 mark) row other ⌝ }
+// The lower of two rows, if a directory was found in the first; else the second.
+fn found_row(mark: u64, row: usize, low: usize) -> usize
+    ensures { λ r. ⌜ r ≡ pick (leb 8 mark) (lesser row low) low ⌝ }
 {
     if 8 <= mark {
-        return row;
+        return least(row, low);
     }
-    other
+    low
 }
 
 // Gives a record its part and owner, where it has none.
-fn assign_part(part: &mut [u32], owner: &mut [u32], g: Claim) -> Listed
+fn assign_part(part: &mut [u64], owner: &mut [u64], g: Claim) -> Listed
     requires { ⌜ (g .row < length (now part)) × (length (now owner) ≡ length (now part)) ⌝ }
     ensures { λ r. ⌜ Runs (given g) part owner r × NoOther (before part) (after part) r ⌝ }
 {
@@ -98,42 +50,12 @@ fn assign_part(part: &mut [u32], owner: &mut [u32], g: Claim) -> Listed
     Listed::Next(g.next, row)
 }
 
-// Tests a copy of a keys list: it is the copy of a record of the partition that the directory owns.
-fn test_copy(file: &[u8], start: &[u32], list: Span, at: usize, near: usize) -> Entry
-    requires { ⌜ Rises (now start) ⌝ }
-    ensures { λ r. ⌜ Tested (before start) (copyStep (before file) (before start) list at) r ⌝ }
-{
-    let Header::Good(k) = read_copy(file, at, list.end) else {
-        return Entry::Fault(12, list.seek as usize);
-    };
-    let place = k.seekkey as usize;
-    let Row::At(row) = seek_row(start, place, near) else {
-        return Entry::Fault(13, at);
-    };
-    let Piece::Record(l) = read_piece(file, place) else {
-        return Entry::Fault(13, at);
-    };
-    if !same_at(file, at, place, k.keylen as usize) {
-        return Entry::Fault(13, at);
-    }
-    if k.seekpdir != list.dir as u64 {
-        return Entry::Fault(13, at);
-    }
-    Entry::Fits(Claim {
-        row,
-        part: mark_of(file, l),
-        dir: list.dir,
-        next: at + k.keylen as usize,
-        place: at,
-    })
-}
-
 // One copy of a keys list.
 fn one_copy(
     file: &[u8],
-    start: &[u32],
-    part: &mut [u32],
-    owner: &mut [u32],
+    start: &[u64],
+    part: &mut [u64],
+    owner: &mut [u64],
     list: Span,
     at: usize,
     near: usize,
@@ -151,9 +73,9 @@ fn one_copy(
 // Some copies of a keys list, one after the other.
 fn list_copies(
     file: &[u8],
-    start: &[u32],
-    part: &mut [u32],
-    owner: &mut [u32],
+    start: &[u64],
+    part: &mut [u64],
+    owner: &mut [u64],
     list: Span,
     from: usize,
     count: u32,
@@ -171,10 +93,7 @@ fn list_copies(
         let Listed::Next(next, row) = r else {
             return r;
         };
-        let found = found_row(part[row], row, low);
-        if found < low {
-            low = found;
-        }
+        low = found_row(part[row], row, low);
         near = row + 1;
         at = next;
         left -= 1;
@@ -185,9 +104,9 @@ fn list_copies(
 // The data of a keys list.
 fn list_data(
     file: &[u8],
-    start: &[u32],
-    part: &mut [u32],
-    owner: &mut [u32],
+    start: &[u64],
+    part: &mut [u64],
+    owner: &mut [u64],
     list: Span,
     from: usize,
 ) -> Listed
@@ -209,41 +128,13 @@ fn list_data(
     r
 }
 
-// The record of a directory's keys list, by its place and size.
-fn find_list(file: &[u8], start: &[u32], dir: u32, head: DirHead) -> Keys
-    requires { ⌜ Rises (now start) ⌝ }
-    ensures { λ r. ⌜ Found (before file) (before start) dir head r ⌝ }
-{
-    let seek = head.seekkeys;
-    let nbytes = head.nbyteskeys;
-    if seek as u64 + nbytes as u64 == 0 {
-        return Keys::Nothing;
-    }
-    let Row::At(row) = find_row(start, seek as usize) else {
-        return Keys::Fault(12, seek as usize);
-    };
-    let place = long(dir);
-    let Data::Held(from, end) = read_list(file, seek as usize, nbytes, place) else {
-        return Keys::Fault(12, seek as usize);
-    };
-    let next = from + 4;
-    let g = Claim {
-        row,
-        part: 4,
-        dir,
-        next,
-        place,
-    };
-    Keys::Held(g, from, end)
-}
-
 // The keys list of a directory.
 pub(crate) fn list_keys(
     file: &[u8],
-    start: &[u32],
-    part: &mut [u32],
-    owner: &mut [u32],
-    dir: u32,
+    start: &[u64],
+    part: &mut [u64],
+    owner: &mut [u64],
+    dir: u64,
     head: DirHead,
 ) -> Listed
     requires { ⌜ Tables (now start) (now part) (now owner) ⌝ }

@@ -13,13 +13,12 @@ use wire::finished;
 use wire::number::least;
 use wire::refused;
 
-mod chain;
 mod keys;
 mod rounds;
 mod survey;
 
 // The verdict; on a pass the tables begin with the rows.
-fn examine(file: &[u8], start: &mut [u32], part: &mut [u32], owner: &mut [u32]) -> Answer
+fn examine(file: &[u8], start: &mut [u64], part: &mut [u64], owner: &mut [u64]) -> Answer
     ensures { λ r. ⌜ Examines file start part owner r ⌝ }
 {
     let head = match open(file) {
@@ -45,7 +44,7 @@ fn examine(file: &[u8], start: &mut [u32], part: &mut [u32], owner: &mut [u32]) 
 
 // Audits a file. On a pass row i of the tables is start, part and owner of piece i, later entries are 0; on a refusal
 // all entries are 0.
-pub fn audit(file: &[u8], start: &mut [u32], part: &mut [u32], owner: &mut [u32]) -> Answer
+pub fn audit(file: &[u8], start: &mut [u64], part: &mut [u64], owner: &mut [u64]) -> Answer
     ensures { λ r. ⌜ Audits file start part owner r ⌝ }
 {
     let a = examine(file, start, part, owner);

@@ -12,24 +12,24 @@ use directory::Dir;
 use directory::read_head;
 use directory::read_sub;
 use fileheader::FileHead;
-use table::long;
+use wire::number::least;
 
 // The header of the directory at a place.
-fn read_dir(file: &[u8], head: FileHead, place: u32, parent: u32) -> Dir
+fn read_dir(file: &[u8], head: FileHead, place: u64, parent: u64) -> Dir
     ensures { λ r. ⌜ r ≡ dirOf (before file) head place parent ⌝ }
 {
     if place == 100 {
         return read_head(file, head.nbytesname);
     }
-    read_sub(file, long(place), long(parent))
+    read_sub(file, place as usize, parent as usize)
 }
 
 // The directory in a row.
 fn list_dir(
     file: &[u8],
-    start: &[u32],
-    part: &mut [u32],
-    owner: &mut [u32],
+    start: &[u64],
+    part: &mut [u64],
+    owner: &mut [u64],
     head: FileHead,
     row: usize,
 ) -> Listed
@@ -39,7 +39,7 @@ fn list_dir(
 {
     let dir = start[row];
     let Dir::Held(d) = read_dir(file, head, dir, owner[row]) else {
-        return Listed::Fault(11, long(dir));
+        return Listed::Fault(11, dir as usize);
     };
     list_keys(file, start, part, owner, dir, d)
 }
@@ -47,9 +47,9 @@ fn list_dir(
 // The same, and it is done.
 fn take_dir(
     file: &[u8],
-    start: &[u32],
-    part: &mut [u32],
-    owner: &mut [u32],
+    start: &[u64],
+    part: &mut [u64],
+    owner: &mut [u64],
     head: FileHead,
     row: usize,
 ) -> Listed
@@ -63,14 +63,11 @@ fn take_dir(
         return r;
     };
     part[row] = mark - 8;
-    if row < low {
-        return Listed::Next(at, row);
-    }
-    Listed::Next(at, low)
+    Listed::Next(at, least(row, low))
 }
 
 // The first row of a directory that was found and is not done.
-fn first_row(part: &[u32]) -> usize
+fn first_row(part: &[u64]) -> usize
     ensures { λ r. ⌜ r ≡ nextRow (before part) ⌝ }
 {
     let mut i: usize = 0;
@@ -84,7 +81,7 @@ fn first_row(part: &[u32]) -> usize
 }
 
 // The same, looked for from a row on.
-fn next_row(part: &[u32], from: usize) -> usize
+fn next_row(part: &[u64], from: usize) -> usize
     requires { ⌜ Done (now part) from ⌝ }
     ensures { λ r. ⌜ r ≡ nextRow (before part) ⌝ }
 {
@@ -94,9 +91,9 @@ fn next_row(part: &[u32], from: usize) -> usize
 // All directories.
 pub(crate) fn list_dirs(
     file: &[u8],
-    start: &[u32],
-    part: &mut [u32],
-    owner: &mut [u32],
+    start: &[u64],
+    part: &mut [u64],
+    owner: &mut [u64],
     head: FileHead,
 ) -> Listed
     requires { ⌜ Tables (now start) (now part) (now owner) ⌝ }

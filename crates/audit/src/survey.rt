@@ -10,13 +10,13 @@ use crate::rounds::list_dirs;
 use directory::Dir;
 use directory::read_head;
 use fileheader::FileHead;
-use rows::lists::check_free;
+use freelist::check_free;
 use rows::lists::check_info;
 use rows::lists::part_at;
 use table::clear;
 
 // The parts before the first directory is taken.
-fn first_parts(file: &[u8], start: &[u32], part: &mut [u32], head: FileHead)
+fn first_parts(file: &[u8], start: &[u64], part: &mut [u64], head: FileHead)
     requires { ⌜ length (now part) ≡ length (now start) ⌝ }
     ensures { λ _. ⌜ after part ≡ firstParts (before file) head (before start) ⌝ }
 {
@@ -30,9 +30,9 @@ fn first_parts(file: &[u8], start: &[u32], part: &mut [u32], head: FileHead)
 // Head, free list, info, then the directories.
 pub(crate) fn survey(
     file: &[u8],
-    start: &[u32],
-    part: &mut [u32],
-    owner: &mut [u32],
+    start: &[u64],
+    part: &mut [u64],
+    owner: &mut [u64],
     head: FileHead,
 ) -> Listed
     requires { ⌜ Tables (now start) (now part) (now owner) ⌝ }

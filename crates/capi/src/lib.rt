@@ -175,9 +175,9 @@ pub extern "C" fn rootmap_info(
 #[no_mangle]
 pub extern "C" fn rootmap_audit(
     file: &[u8],
-    start: &mut [u32],
-    part: &mut [u32],
-    owner: &mut [u32],
+    start: &mut [u64],
+    part: &mut [u64],
+    owner: &mut [u64],
     place: &mut u64,
     count: &mut u64,
 ) -> u64

@@ -1,12 +1,14 @@
--- Directory headers: document 01, "Directory header (003)", "Head" and "Keys list".
+-- Directory headers: document 01, "Directory header (003)", "Head" and "Keys list"; document 02, request 02, for the width of their
+-- offsets.
 use Prim.Native.Nat.{ℕ, _+_}
 use mathlib.Core.List.{List, [], _∷_}
 use lib.Dec.{eqb}
 use lib.ListN.{length, getD}
 use Rattle.wire.specs.Answer.{done, refusal}
-use Rattle.wire.specs.Check.{Check, le, eq, yes, all, pick}
-use Rattle.wire.specs.Layout.{offsetWidth, extent, valuesAt}
+use Rattle.wire.specs.Check.{Check, le, eq, yes, all, nothing, pick}
+use Rattle.wire.specs.Layout.{offsetWidth, versionFits, extent, valuesAt}
 use Rattle.wire.specs.Name.{tFile}
+use Rattle.wire.specs.Number.{numAt}
 use Rattle.wire.specs.Text.{textIn, onText}
 use Rattle.wire.specs.declared.Answer.{Answer}
 use Rattle.key.specs.Header.{unpackedData}
@@ -31,13 +33,16 @@ dirFrom v = record {
   seekkeys = getD v 7 0;
 }
 
-unfoldable pub dirAt : List ℕ → ℕ → DirHead
-dirAt s p = dirFrom (valuesAt (dirLayout offsetWidth) s p)
+-- the layout of the header at p: its Version, which stands first, tells the width of its offsets
+abbrev pub dirLayoutAt : List ℕ → ℕ → List ℕ
+dirLayoutAt s p = dirLayout (offsetWidth (numAt 2 s p))
 
--- all of it inside its record, Version at most 1000
+unfoldable pub dirAt : List ℕ → ℕ → DirHead
+dirAt s p = dirFrom (valuesAt (dirLayoutAt s p) s p)
+
+-- all of it, 30 bytes or 42, inside its record, Version at most 2000
 abbrev pub dirFits : List ℕ → ℕ → ℕ → List Check
-dirFits s p end =
-    le end (length s) ∷ le (p + extent (dirLayout offsetWidth)) end ∷ le (getD (valuesAt (dirLayout offsetWidth) s p) 0 0) 1000 ∷ []
+dirFits s p end = le end (length s) ∷ le (p + extent (dirLayoutAt s p)) end ∷ versionFits (numAt 2 s p) ∷ []
 
 unfoldable pub dirIn : List ℕ → ℕ → ℕ → Dir
 dirIn s p end = pick (all (dirFits s p end)) (Held (dirAt s p)) Bad
@@ -85,7 +90,7 @@ dirOf s h p parent = pick (eqb p 100) (headIn s (h .nbytesname)) (subIn s p pare
 
 -- Keys list: SeekKeys and NbytesKeys both 0 (an empty directory)
 abbrev pub noKeys : DirHead → List Check
-noKeys dh = eq (dh .seekkeys) 0 ∷ eq (dh .nbyteskeys) 0 ∷ []
+noKeys dh = nothing (dh .seekkeys) (dh .nbyteskeys)
 
 -- number, place and count of each case: the head rule's refusal is 8 at 100, a subdirectory's 11 at the directory
 abbrev pub headAnswer : Dir → Answer

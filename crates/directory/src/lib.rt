@@ -8,20 +8,19 @@ use key::piece::read_piece;
 use record::is_file;
 use record::is_plain_record;
 use record::is_unpacked;
+use wire::number::be_offset;
 use wire::number::be16;
 use wire::number::be32;
+use wire::number::width;
 use wire::text::Found;
 use wire::text::read_text;
-
-// The bytes of a directory header.
-const EXTENT: usize = 30;
 
 pub struct DirHead {
     pub nbyteskeys: u32,
     pub nbytesname: u32,
-    pub seekdir: u32,
-    pub seekparent: u32,
-    pub seekkeys: u32,
+    pub seekdir: u64,
+    pub seekparent: u64,
+    pub seekkeys: u64,
 }
 
 pub enum Dir {
@@ -29,7 +28,7 @@ pub enum Dir {
     Bad,
 }
 
-// The directory header at a place, if it lies before end and its version is at most 1000.
+// The directory header at a place, if it lies before end and its version is at most 2000.
 fn read_dir(s: &[u8], at: usize, end: usize) -> Dir
     ensures { λ r. ⌜ r ≡ dirIn (before s) at end ⌝ }
 {
@@ -39,18 +38,21 @@ fn read_dir(s: &[u8], at: usize, end: usize) -> Dir
     if end < at {
         return Dir::Bad;
     }
-    if end - at < EXTENT {
+    let version = be16(s, at);
+    let wide = 1000 < version;
+    let w = width(wide);
+    if end - at < 18 + 3 * w {
         return Dir::Bad;
     }
-    if 1000 < be16(s, at) {
+    if 2000 < version {
         return Dir::Bad;
     }
     Dir::Held(DirHead {
         nbyteskeys: be32(s, at + 10),
         nbytesname: be32(s, at + 14),
-        seekdir: be32(s, at + 18),
-        seekparent: be32(s, at + 22),
-        seekkeys: be32(s, at + 26),
+        seekdir: be_offset(s, at + 18, wide),
+        seekparent: be_offset(s, at + (18 + w), wide),
+        seekkeys: be_offset(s, at + (18 + 2 * w), wide),
     })
 }
 
@@ -118,10 +120,10 @@ pub fn read_sub(file: &[u8], at: usize, parent: usize) -> Dir
     let Dir::Held(d) = read_dir(file, at + k.keylen as usize, at + k.nbytes as usize) else {
         return Dir::Bad;
     };
-    if d.seekdir as usize != at {
+    if d.seekdir != at as u64 {
         return Dir::Bad;
     }
-    if d.seekparent as usize != parent {
+    if d.seekparent != parent as u64 {
         return Dir::Bad;
     }
     if d.nbytesname != k.keylen {

@@ -3,6 +3,7 @@ use mathlib.Core.Bool.{true}
 use mathlib.Core.Path.{_≡_, refl}
 use Rattle.wire.specs.Check.{all}
 use Rattle.wire.specs.Equal.{eqBytes}
+use Rattle.wire.specs.Layout.{widthOf}
 use Rattle.wire.specs.Number.{beValue, numAt, beBytes, signedOf, bitsOf}
 use Rattle.wire.specs.Text.{textSize, textOf, textAt, textIn, onText, contentOf, textBytes}
 use Rattle.date.specs.Date.{packed, packAnswer}
@@ -10,10 +11,10 @@ use Rattle.key.specs.Header.{keyAt, namesIn, headerIn}
 use Rattle.key.specs.Piece.{sizeAt, recordThere, pieceAt, pieceAnswer, onRecord}
 use Rattle.key.specs.Writer.{headerBytes, nameBytes}
 use Rattle.record.specs.Name.{sameBytes, named}
-use Rattle.fileheader.specs.File.{fileHead, openedAs}
+use Rattle.fileheader.specs.File.{fileHead, endFits, openedAs}
 use Rattle.directory.specs.Dir.{dirAt, dirIn, keptIf, headDirIn, headIn, dirOf}
 use Rattle.keylist.specs.Keys.{dataIn, freeIn, listClass, listIn, copyIn}
-use Rattle.rules.specs.Free.{segmentsAt, versionsFit, gaps, freeHolds, infoHolds}
+use Rattle.rules.specs.Free.{segmentsAt, segmentsEnd, segmentVersion, versionsFit, gaps, lastFits, listGaps, freeHolds, infoHolds}
 use Rattle.rules.specs.Order.{chain, ruled, verdict}
 use Rattle.rules.specs.Row.{starts}
 use Rattle.rules.specs.Turn.{rowOf, listedMark, copyTurn, copies, dataTurn, keysIn, keysTurn, dirTurn, roundTurn, nextRow, rounds, firstPart}
@@ -27,10 +28,10 @@ use Rattle.streamer.specs.Info.{infoAnswer, infoTable}
 use Rattle.examples.specs.Worked.{examples}
 
 pub worked : all examples ≡ true
-unfolding eqBytes beValue numAt beBytes signedOf bitsOf textSize textOf textAt textIn onText contentOf textBytes packed packAnswer keyAt
-    namesIn headerIn sizeAt recordThere pieceAt pieceAnswer onRecord headerBytes nameBytes sameBytes named fileHead openedAs dirAt dirIn keptIf
-    headDirIn headIn dirOf dataIn freeIn listClass listIn copyIn segmentsAt versionsFit gaps freeHolds infoHolds chain ruled verdict starts
-    rowOf listedMark copyTurn copies dataTurn keysIn keysTurn dirTurn roundTurn nextRow rounds firstPart
+unfolding eqBytes widthOf beValue numAt beBytes signedOf bitsOf textSize textOf textAt textIn onText contentOf textBytes packed packAnswer keyAt
+    namesIn headerIn sizeAt recordThere pieceAt pieceAnswer onRecord headerBytes nameBytes sameBytes named fileHead endFits openedAs
+    dirAt dirIn keptIf headDirIn headIn dirOf dataIn freeIn listClass listIn copyIn segmentsAt segmentsEnd segmentVersion versionsFit
+    gaps lastFits listGaps freeHolds infoHolds chain ruled verdict starts rowOf listedMark copyTurn copies dataTurn keysIn keysTurn dirTurn roundTurn nextRow rounds firstPart
     andThen fieldAt numbersAt endOf countAt counted versionedAt versioned endedAt textFieldAt unnamedAt zeroAt objectAt firstIn classIn
     classOf classNameAt newTag oldTag tagAt headAt headed namedAt withName detailsAt baseAt withFields counterAt ownAt memberAt flat times ends
     elementAt collectionAt sized arrayBody arrayAt classBody classAt wholeAt listAt recordAt infoAt infoAnswer infoTable

@@ -1,25 +1,31 @@
 -- Records of the worked examples and one.root, put together from the parts that the papers lay out.
-use Prim.Native.Nat.{ℕ, suc, zero, _+_}
+use Prim.Native.Nat.{ℕ, suc, zero, _+_, _-_, _*_}
+use mathlib.Core.Bool.{Bool, true, false}
 use mathlib.Core.List.{List, [], _∷_, _++_}
 use lib.IntN.{pos}
 use lib.ListN.{length, replicate}
-use Rattle.wire.specs.Layout.{offsetWidth, valueBytes}
+use Rattle.wire.specs.Check.{pick}
+use Rattle.wire.specs.Layout.{widthOf, extent, valueBytes}
 use Rattle.wire.specs.Name.{tFile, tList, streamerInfo}
 use Rattle.wire.specs.Number.{beBytes}
 use Rattle.wire.specs.Text.{textBytes}
 use Rattle.key.specs.Writer.{headerBytes, sumBytes}
 use Rattle.fileheader.specs.File.{fileLayout}
 use Rattle.directory.specs.Dir.{dirLayout}
-use Rattle.rules.specs.Free.{segment}
+use Rattle.rules.specs.Free.{segmentLayout}
 use Rattle.infotag.specs.Tag.{classNames}
 
--- the header of a record with n bytes of data
-abbrev pub keyBytes : ℕ → ℕ → ℕ → List ℕ → List ℕ → List ℕ → List ℕ
-keyBytes n seekkey seekpdir class name title =
+-- the Version of a key, a directory header or a segment, in the wide form or not
+abbrev pub inForm : Bool → ℕ → ℕ
+inForm wide version = pick wide (version + 1000) version
+
+-- the header of a record of this Version with n bytes of data
+abbrev pub keyBytes : ℕ → ℕ → ℕ → ℕ → List ℕ → List ℕ → List ℕ → List ℕ
+keyBytes version n seekkey seekpdir class name title =
     headerBytes
     (record {
-      nbytes = sumBytes class name title + n;
-      version = 4;
+      nbytes = sumBytes version class name title + n;
+      version = version;
       objlen = n;
       datime = 0;
       cycle = pos 1;
@@ -32,34 +38,45 @@ keyBytes n seekkey seekpdir class name title =
 abbrev pub tObjString : List ℕ
 tObjString = 84 ∷ 79 ∷ 98 ∷ 106 ∷ 83 ∷ 116 ∷ 114 ∷ 105 ∷ 110 ∷ 103 ∷ []
 
--- one.root's head key, at 100 with 33 bytes of data, and that of its object "x", at 168 with 10
-abbrev pub headKey : List ℕ
-headKey = keyBytes 33 100 0 tFile (97 ∷ []) []
+-- one.root's head key, at 100 with its name, title and directory header as data, and that of its object "x", with 10 bytes
+abbrev pub headKey : Bool → List ℕ
+headKey wide = keyBytes (inForm wide 4) (3 + extent (dirLayout (widthOf wide))) 100 0 tFile (97 ∷ []) []
 
-abbrev pub objectKey : List ℕ
-objectKey = keyBytes 10 168 100 tObjString (120 ∷ []) []
+abbrev pub objectKey : Bool → ℕ → List ℕ
+objectKey wide object = keyBytes (inForm wide 4) 10 object 100 tObjString (120 ∷ []) []
 
--- one.root, with dates of 0, and with this last of its gap's segment
-abbrev pub oneRoot : ℕ → List ℕ
-oneRoot last =
+-- one.root in the wide form or not, with dates of 0: the places of its pieces and END, and the last of its two segments
+abbrev pub rootFile : Bool → ℕ → ℕ → ℕ → ℕ → ℕ → ℕ → ℕ → List ℕ
+rootFile wide object keys gap free end last final =
+    let w = widthOf wide in
+    let name = length (headKey wide) + 3 in
     -- 0: the file header
-    valueBytes (fileLayout offsetWidth) (1919905652 ∷ 62400 ∷ 100 ∷ 364 ∷ 309 ∷ 55 ∷ 2 ∷ 38 ∷ 4 ∷ 1 ∷ 0 ∷ 0 ∷ []) ++ replicate 55 0
+    valueBytes (fileLayout w)
+    (1919905652 ∷ pick wide 1062400 62400 ∷ 100 ∷ end ∷ free ∷ (end - free) ∷ 2 ∷ name ∷ w ∷ 1 ∷ 0 ∷ 0 ∷ [])
+    ++ replicate (100 - extent (fileLayout w)) 0
     -- 100: the head, its name and title, its directory header
-    ++ headKey ++ textBytes (97 ∷ []) ++ textBytes []
-    ++ valueBytes (dirLayout offsetWidth) (5 ∷ 0 ∷ 0 ∷ 79 ∷ 38 ∷ 100 ∷ 0 ∷ 218 ∷ [])
-    -- 168: "x"
-    ++ objectKey ++ replicate 10 7
-    -- 218: the keys list, with one copy
-    ++ keyBytes 44 218 100 tFile (97 ∷ []) [] ++ beBytes 4 1 ++ objectKey
-    -- 297: a gap of 12 bytes, which begins with −12
+    ++ headKey wide ++ textBytes (97 ∷ []) ++ textBytes []
+    ++ valueBytes (dirLayout w) (inForm wide 5 ∷ 0 ∷ 0 ∷ (gap - keys) ∷ name ∷ 100 ∷ 0 ∷ keys ∷ [])
+    -- "x"
+    ++ objectKey wide object ++ replicate 10 7
+    -- the keys list, with one copy
+    ++ keyBytes (inForm wide 4) (4 + length (objectKey wide object)) keys 100 tFile (97 ∷ []) [] ++ beBytes 4 1 ++ objectKey wide object
+    -- a gap of 12 bytes, which begins with −12
     ++ beBytes 4 4294967284 ++ replicate 8 0
-    -- 309: the free list
-    ++ keyBytes 20 309 100 tFile (97 ∷ []) []
-    ++ valueBytes segment (1 ∷ 297 ∷ last ∷ []) ++ valueBytes segment (1 ∷ 364 ∷ 2000000000 ∷ [])
+    -- the free list
+    ++ keyBytes (inForm wide 4) (2 * extent (segmentLayout w)) free 100 tFile (97 ∷ []) []
+    ++ valueBytes (segmentLayout w) (inForm wide 1 ∷ gap ∷ last ∷ []) ++ valueBytes (segmentLayout w) (inForm wide 1 ∷ end ∷ final ∷ [])
+
+-- one.root with this last of its gap's segment, and the same file in the wide form with this last of its final segment
+abbrev pub oneRoot : ℕ → List ℕ
+oneRoot last = rootFile false 168 218 297 309 364 last 2000000000
+
+abbrev pub wideRoot : ℕ → List ℕ
+wideRoot final = rootFile true 188 246 341 353 432 352 final
 
 -- a record at 0 whose name has n bytes: its key, of class "A", is all of it
 abbrev pub longName : ℕ → List ℕ
-longName n = keyBytes 0 0 0 (65 ∷ []) (replicate n 66) []
+longName n = keyBytes 4 0 0 0 (65 ∷ []) (replicate n 66) []
 
 -- an object: its ByteCount and its bytes
 abbrev pub object : List ℕ → List ℕ
@@ -106,20 +123,20 @@ class tag name elements = object (tag ++ object (beBytes 2 2 ++ tNamed name ++ b
 abbrev pub list : ℕ → List ℕ → List ℕ
 list n classes = object (beBytes 2 3 ++ tObject ++ textBytes [] ++ beBytes 4 n ++ classes)
 
--- the StreamerInfo record at 0 with this list: 002 gives its title as "Doubly linked list"
-abbrev pub infoRecord : List ℕ → List ℕ
-infoRecord x =
-    keyBytes (length x) 0 0 tList streamerInfo
+-- the StreamerInfo record at 0 of this Version with this list: 002 gives its title as "Doubly linked list"
+abbrev pub infoRecord : ℕ → List ℕ → List ℕ
+infoRecord version x =
+    keyBytes version (length x) 0 0 tList streamerInfo
     (68 ∷ 111 ∷ 117 ∷ 98 ∷ 108 ∷ 121 ∷ 32 ∷ 108 ∷ 105 ∷ 110 ∷ 107 ∷ 101 ∷ 100 ∷ 32 ∷ 108 ∷ 105 ∷ 115 ∷ 116 ∷ []) ++ x
 
 -- two classes: A without elements, and B, whose tag is a reference (or another number v), with the base x
-abbrev pub twoClasses : ℕ → List ℕ
-twoClasses v =
-    infoRecord
+abbrev pub twoClasses : ℕ → ℕ → List ℕ
+twoClasses version v =
+    infoRecord version
     (list 2
     (class (newTag 0) (65 ∷ []) (array (newTag 1) 0 [])
     ++ class (reference v) (66 ∷ [])
-    (array (reference 144) 1 (element 1 (120 ∷ []) (66 ∷ 65 ∷ 83 ∷ 69 ∷ []) 0 0 (beBytes 4 7)))))
+    (array (reference (v + 55)) 1 (element 1 (120 ∷ []) (66 ∷ 65 ∷ 83 ∷ 69 ∷ []) 0 0 (beBytes 4 7)))))
 
 -- fCountVersion, fCountName "n", fCountClass "A"
 abbrev pub counter : List ℕ
@@ -132,7 +149,7 @@ ofKind kind own = element kind ((96 + kind) ∷ []) ((64 + kind) ∷ []) kind (1
 -- one class with an element of each of the ten kinds
 abbrev pub tenKinds : List ℕ
 tenKinds =
-    infoRecord
+    infoRecord 4
     (list 1
     (class (newTag 0) (65 ∷ [])
     (array (newTag 1) 10

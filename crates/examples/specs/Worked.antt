@@ -1,8 +1,9 @@
--- Document 01, "Examples by hand", those marked * and one.root's 0, 7 and 9: one table of what the definitions give.
+-- Document 01, "Examples by hand", those marked * and one.root's 0, 7 and 9, and beside them the wide form (document 02, request 02) and
+-- the ten kinds: one table of what the definitions give.
 use Prim.Native.Nat.{ℕ}
 use mathlib.Core.Bool.{false}
 use mathlib.Core.List.{List, [], _∷_, _++_}
-use lib.ListN.{length, set, replicate}
+use lib.ListN.{length, take, set, replicate}
 use Rattle.wire.specs.Check.{Check, eq, yes}
 use Rattle.date.specs.Date.{packAnswer}
 use Rattle.wire.specs.Equal.{eqBytes}
@@ -17,7 +18,7 @@ use Rattle.rules.specs.Free.{isGap}
 use Rattle.rules.specs.Order.{Verdict, verdict, numberOf, placeOf, countOf, startsOf, partsOf, ownersOf}
 use Rattle.rules.specs.Turn.{Turn, going, stop, copyTurn}
 use Rattle.streamer.specs.Info.{infoAnswer, infoTable}
-use Rattle.examples.specs.Records.{headKey, objectKey, oneRoot, longName, twoClasses, tenKinds}
+use Rattle.examples.specs.Records.{keyBytes, headKey, objectKey, oneRoot, wideRoot, longName, twoClasses, tenKinds}
 
 -- the date of the first example, with a month
 abbrev pub theDate : ℕ → Date
@@ -58,9 +59,13 @@ sumIn Bad = 0
 abbrev pub sumAt : List ℕ → ℕ
 sumAt s = sumIn (headerIn s 0 (length s))
 
+-- a record at 0 of this Version, with empty strings and no data
+abbrev pub emptyKey : ℕ → List ℕ
+emptyKey version = keyBytes version 0 0 0 [] [] []
+
 -- a copy whose KeyLen, 41, is one above its sum
 abbrev pub longCopy : List ℕ
-longCopy = set objectKey 15 41 ++ 0 ∷ []
+longCopy = set (objectKey false 168) 15 41 ++ 0 ∷ []
 
 abbrev pub examples : List Check
 examples =
@@ -68,15 +73,15 @@ examples =
     answers (packAnswer (theDate 3)) 0 0 1960757165
     ++ answers (packAnswer (theDate 16)) 18 0 0
     -- StreamerInfo's own key has sum 64
-    ++ eq (sumAt (twoClasses 89)) 64
+    ++ eq (sumAt (twoClasses 4 89)) 64
     -- its first new class tag is at 89, so a reference to it is 0x8000005b: it is taken, and one to 90 is not
-    ∷ eq (numAt 4 (twoClasses 89) 89) 4294967295 ∷ eq (numAt 4 (twoClasses 89) 187) 2147483739
-    ∷ answers (infoAnswer (twoClasses 89) 0 6) 0 0 1
-    ++ yes (eqBytes (infoTable (twoClasses 89) 0 7) (1 ∷ 1 ∷ 307 ∷ 346 ∷ 0 ∷ 0 ∷ 0 ∷ []))
-    ∷ answers (infoAnswer (twoClasses 90) 0 6) 22 187 0
-    ++ answers (infoAnswer (twoClasses 89) 0 5) 24 0 1
+    ∷ eq (numAt 4 (twoClasses 4 89) 89) 4294967295 ∷ eq (numAt 4 (twoClasses 4 89) 187) 2147483739
+    ∷ answers (infoAnswer (twoClasses 4 89) 0 6) 0 0 1
+    ++ yes (eqBytes (infoTable (twoClasses 4 89) 0 7) (1 ∷ 1 ∷ 307 ∷ 346 ∷ 0 ∷ 0 ∷ 0 ∷ []))
+    ∷ answers (infoAnswer (twoClasses 4 90) 0 6) 22 187 0
+    ++ answers (infoAnswer (twoClasses 4 89) 0 5) 24 0 1
     -- one.root's head key has sum 35; "x" of TObjString 40
-    ++ eq (sumAt headKey) 35 ∷ eq (sumAt objectKey) 40
+    ++ eq (sumAt (headKey false)) 35 ∷ eq (sumAt (objectKey false 168)) 40
     -- name length 254 is taken, 255 is 6
     ∷ answers (pieceAnswer (longName 254) 0) 0 0 284
     ++ answers (pieceAnswer (longName 255) 0) 6 0 0
@@ -91,12 +96,30 @@ examples =
     ++ says (verdict [] 5) 1 0 0
     -- a copy with KeyLen one above its sum is 12 at its list; a plain one is read, and is 13 where no piece starts at its SeekKey
     ++ stops (copyTurn longCopy [] 100 218 41 [] [] 0) 12 218
-    ++ stops (copyTurn objectKey [] 100 218 40 [] [] 0) 13 0
+    ++ stops (copyTurn (objectKey false 168) [] 100 218 40 [] [] 0) 13 0
     -- one.root, room 5 passes; room 4 is 7 with count 5. Segment 297 to 309 is 9 (document 02, request 01)
     ++ says (verdict (oneRoot 308) 5) 0 0 5
     ++ shows (verdict (oneRoot 308) 5) (100 ∷ 168 ∷ 218 ∷ 297 ∷ 309 ∷ []) (1 ∷ 5 ∷ 4 ∷ 0 ∷ 2 ∷ []) (0 ∷ 100 ∷ 100 ∷ 0 ∷ 0 ∷ [])
     ++ says (verdict (oneRoot 308) 4) 7 0 5
     ++ says (verdict (oneRoot 309) 5) 9 309 0
+    -- not of the paper's examples, but of request 02. A key with Version 1000 has sum 29 where its strings are empty, with 1001 37
+    ++ answers (pieceAnswer (emptyKey 1000) 0) 0 0 29
+    ++ answers (pieceAnswer (emptyKey 1001) 0) 0 0 37
+    ++ answers (pieceAnswer (emptyKey 2000) 0) 0 0 37
+    ++ answers (pieceAnswer (emptyKey 2001) 0) 6 0 0
+    -- a wide record of 36 bytes is 6
+    ++ answers (pieceAnswer (set (take 36 (emptyKey 1001)) 3 36) 0) 6 0 0
+    -- the StreamerInfo record with a wide key: its tags are counted from the record's start
+    ++ eq (sumAt (twoClasses 1004 97)) 72 ∷ answers (infoAnswer (twoClasses 1004 97) 0 6) 0 0 1
+    ++ answers (infoAnswer (twoClasses 1004 89) 0 6) 22 195 0
+    -- a wide one.root: its final segment's last is any number above END
+    ++ says (verdict (wideRoot 433) 5) 0 0 5
+    ++ shows (verdict (wideRoot 433) 5) (100 ∷ 188 ∷ 246 ∷ 341 ∷ 353 ∷ []) (1 ∷ 5 ∷ 4 ∷ 0 ∷ 2 ∷ []) (0 ∷ 100 ∷ 100 ∷ 0 ∷ 0 ∷ [])
+    ++ says (verdict (wideRoot 18446744073709551615) 5) 0 0 5
+    ++ says (verdict (wideRoot 432) 5) 9 353 0
+    -- Units 8 in the narrow one, and 4 in the wide, is 3
+    ++ says (verdict (set (oneRoot 308) 32 8) 5) 3 0 0
+    ++ says (verdict (set (wideRoot 433) 40 4) 5) 3 0 0
     -- not one of the paper's: each of the ten kinds, and its row
     ++ answers (infoAnswer tenKinds 0 60) 0 0 10
     ++ yes

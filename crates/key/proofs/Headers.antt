@@ -1,21 +1,23 @@
 -- Key headers: what the reader answers, from facts, and back.
-use Prim.Native.Nat.{ℕ, _+_, _-_, _≤_}
+use Prim.Native.Nat.{ℕ, _+_, _-_, _<_, _≤_}
 use mathlib.Core.Bool.{Bool, true, false, not}
 use mathlib.Core.List.{List}
 use mathlib.Core.Path.{_≡_, refl, sym, ap, _∙_}
 use native.Mathlib.Omega.{arith}
+use lib.Dec.{ltb}
 use lib.ListN.{length}
 use Rattle.wire.specs.Check.{All, all, pick}
-use Rattle.wire.specs.Layout.{offsetWidth, valuesAt}
+use Rattle.wire.specs.Layout.{valuesAt}
 use Rattle.wire.specs.Number.{numAt, signedOf}
-use Rattle.key.specs.Header.{keyLayout, fixedPart, keyFrom, keyAt, namesIn, sumOf, limits, inLimits, wellFormed, headerOf, headerIn}
+use Rattle.key.specs.Header.{keyLayout, fixedPart, widthAt, keyFrom, keyAt, namesIn, sumOf, limits, inLimits, wellFormed, headerOf, headerIn}
 use Rattle.key.specs.declared.header.Key.{Key}
 use Rattle.key.specs.declared.header.Names.{Names}
 use Rattle.key.specs.declared.header.Named.{Named}
 use Rattle.key.specs.declared.header.Named.the-variants.{Held, Cut}
 use Rattle.key.specs.declared.header.Header.the-variants.{Good, Bad}
 use Rattle.wire.proofs.Checks.{yes-all, all-yes, not-all, from-picked, false-true}
-use Rattle.wire.proofs.Texts.{Stands, stands, none-left}
+use Rattle.wire.proofs.Layouts.{width-within}
+use Rattle.wire.proofs.Texts.{Stands, stands, is-cut, none-left}
 use Rattle.key.proofs.Names.{no-class, from-names}
 
 -- where the numbers of a header at p stand, over the width of an offset
@@ -65,8 +67,8 @@ module _ {nbytes version objlen keylen sum : ℕ} where
 
 -- the strings n of the header at p, as read within end: they end where the sum does
 pub record Strings (s : List ℕ) (p end : ℕ) (n : Names) : Type 0 where
-  pub read : Held n ≡ namesIn s (p + fixedPart offsetWidth) end
-  pub class : Stands s (p + fixedPart offsetWidth) end (n .class)
+  pub read : Held n ≡ namesIn s (p + fixedPart (widthAt s p)) end
+  pub class : Stands s (p + fixedPart (widthAt s p)) end (n .class)
   pub name : Stands s (n .class .next) end (n .name)
   pub title : Stands s (n .name .next) end (n .title)
   pub sum : n .title .next ≡ p + sumOf (keyAt s p n)
@@ -76,22 +78,40 @@ abbrev pub namesOf : Key → Names
 namesOf k = record { class = k .class; name = k .name; title = k .title }
 
 module _ (s : List ℕ) (p end : ℕ) where
-  pub strings : {n : Names} → Held n ≡ namesIn s (p + fixedPart offsetWidth) end → Strings s p end n
+  strings-in : {n : Names} → Held n ≡ namesIn s (p + fixedPart (widthAt s p)) end → Strings s p end n
   unfolding keyAt
-  strings e =
-      let f = from-names s (p + fixedPart offsetWidth) end e in
+  strings-in e =
+      let f = from-names s (p + fixedPart (widthAt s p)) end e in
       let a = stands s _ end (f .class) in
       let b = stands s _ end (f .name) in
       let c = stands s _ end (f .title) in
       record { read = e; class = a; name = b; title = c; sum = omega arith }
 
-  pub no-strings : Cut ≡ namesIn s (p + fixedPart offsetWidth) end → Bad ≡ headerIn s p end
+  cut-strings : Cut ≡ namesIn s (p + fixedPart (widthAt s p)) end → Bad ≡ headerIn s p end
   unfolding headerIn
-  no-strings e = ap (headerOf (keyAt s p)) e
+  cut-strings e = ap (headerOf (keyAt s p)) e
+
+  -- the same at a place q that is theirs
+  module _ {q : ℕ} (i : q ≡ p + fixedPart (widthAt s p)) where
+    pub strings : {n : Names} → Held n ≡ namesIn s q end → Strings s p end n
+    strings e = strings-in (rw i at e)
+
+    pub no-strings : Cut ≡ namesIn s q end → Bad ≡ headerIn s p end
+    no-strings e = cut-strings (rw i at e)
 
   -- no byte is left for strings
-  pub too-short : end ≤ p + fixedPart offsetWidth → Bad ≡ headerIn s p end
-  too-short l = no-strings (no-class s (p + fixedPart offsetWidth) end (none-left s (p + fixedPart offsetWidth) end l))
+  pub too-short : end ≤ p + fixedPart (widthAt s p) → Bad ≡ headerIn s p end
+  too-short l = cut-strings (no-class s (p + fixedPart (widthAt s p)) end (none-left s (p + fixedPart (widthAt s p)) end l))
+
+  -- nor is there any past the file
+  pub past-file : length s < end → Bad ≡ headerIn s p end
+  past-file l =
+      let q = p + fixedPart (widthAt s p) in
+      cut-strings (no-class s q end (is-cut s q end (λ h. omega (arith, h .0))))
+
+  -- nor where fewer than the narrow form has are left
+  pub shorter : end ≤ p + 26 → Bad ≡ headerIn s p end
+  shorter l = too-short (omega (arith, width-within (ltb 1000 (numAt 2 s (p + 4)))))
 
   -- the key k of strings n that were read, and the test of its limits
   module _ {n : Names} {k : Key} (f : Strings s p end n) (is : k ≡ keyAt s p n) where
@@ -124,13 +144,13 @@ module _ (s : List ℕ) (p end : ℕ) where
 
   pub from-good : {k : Key} → Good k ≡ headerIn s p end → Formed k
   unfolding headerIn keyAt
-  from-good {k} e = go (namesIn s (p + fixedPart offsetWidth) end) refl e
+  from-good {k} e = go (namesIn s (p + fixedPart (widthAt s p)) end) refl e
     where
-      go : (x : Named) → x ≡ namesIn s (p + fixedPart offsetWidth) end → Good k ≡ headerOf (keyAt s p) x → Formed k
+      go : (x : Named) → x ≡ namesIn s (p + fixedPart (widthAt s p)) end → Good k ≡ headerOf (keyAt s p) x → Formed k
       go (Held n) i e =
           let f = from-picked (wellFormed (keyAt s p n)) (Good (keyAt s p n)) Bad e (λ j. let z : _≡_ {A = ℕ} 0 1 = cc in omega arith) in
           let g : k ≡ keyAt s p n = let h = f .0 in cc in
-          rw g (record { is = refl; strings = strings i; sum = strings i .sum; fits = f .1 })
+          rw g (record { is = refl; strings = strings-in i; sum = strings-in i .sum; fits = f .1 })
       go Cut i e = let z : _≡_ {A = ℕ} 0 1 = cc in absurd (omega arith)
 
   -- its strings end at the sum, before the end, and in the file

@@ -18,8 +18,7 @@ use Rattle.key.specs.declared.header.Header.the-variants.{Good, Bad}
 use Rattle.key.specs.declared.piece.Piece.{Piece}
 use Rattle.key.specs.declared.piece.Piece.the-variants.{Record, Gap, Refused}
 use Rattle.wire.proofs.Checks.{yes-all, not-all, all-or, below-or, false-true}
-use Rattle.wire.specs.Layout.{offsetWidth}
-use Rattle.key.specs.Header.{keyAt}
+use Rattle.key.specs.Header.{widthAt, keyAt}
 use Rattle.key.proofs.Headers.{Formed, namesOf, placed, from-good}
 
 module _ (s : List ℕ) (p : ℕ) where
@@ -110,7 +109,7 @@ module _ (s : List ℕ) (p : ℕ) where
       go : (b : Bool) → eqb (k .seekkey) p ≡ b → View (pick b (Record k) (Refused 6 p))
       go true j =
           let g = from-good s p (p + sizeAt s p) i in
-          let n : k .nbytes ≡ numAt 4 s p = ap (λ (k : Key). k .nbytes) (g .is) ∙ placed offsetWidth s p (namesOf k) .nbytes in
+          let n : k .nbytes ≡ numAt 4 s p = ap (λ (k : Key). k .nbytes) (g .is) ∙ placed (widthAt s p) s p (namesOf k) .nbytes in
           a-record (record { sized-there = h; size = plus-size e ∙ sym n; place = eqb-true (k .seekkey) p j; header = g })
       go false j = no-key h e
   view-header h e Bad i = no-key h e

@@ -4,6 +4,7 @@ use mathlib.Core.List.{List, [], _∷_, _++_, append-assoc}
 use mathlib.Core.Path.{_≡_, refl, sym, ap, _∙_}
 use native.Mathlib.Omega.{arith}
 use borrow.Author.Tests.{lt-ltb, le-ltb}
+use lib.Dec.{ltb}
 use lib.IntN.{ℤ, pos, negsuc}
 use lib.Signed.{mag}
 use lib.ListN.{length, drop, getD}
@@ -17,10 +18,10 @@ use Rattle.wire.specs.Text.{textSize, textIn, textOf, contentOf, textBytes}
 use Rattle.wire.specs.declared.Answer.{Answer}
 use Rattle.wire.specs.declared.text.Found.the-variants.{Held}
 use Rattle.wire.proofs.Checks.{from-picked}
-use Rattle.wire.proofs.Layouts.{length-values, read-written}
+use Rattle.wire.proofs.Layouts.{width-within, length-values, read-written}
 use Rattle.wire.proofs.Patches.{length-patch, drop-patch}
 use Rattle.wire.proofs.Texts.{text-there}
-use Rattle.key.specs.Header.{keyLayout, fixedPart, keyFrom, keyAt}
+use Rattle.key.specs.Header.{keyLayout, fixedPart, widthAt, keyFrom, keyAt}
 use Rattle.key.specs.Piece.{sized, pieceAt}
 use Rattle.key.specs.declared.header.Names.{Names}
 use Rattle.key.specs.declared.piece.Piece.the-variants.{Record}
@@ -58,19 +59,23 @@ module _ (f : Fields) (class name title buf : List ℕ) where
 
   -- the numbers that are written, and the place of the strings
   abbrev numbers : List ℕ
-  numbers = numbersOf f (sumBytes class name title)
+  numbers = numbersOf f (sumBytes (f .version) class name title)
+
+  abbrev w : ℕ
+  w = offsetWidth (f .version)
 
   abbrev at : ℕ
-  at = f .seekkey + fixedPart offsetWidth
+  at = f .seekkey + fixedPart w
 
   module _ (h : Accepted f class name title buf) (d : f .datime < 4294967296) where
-    fit : Fit (keyLayout offsetWidth) numbers
+    fit : Fit (keyLayout w) numbers
     unfolding textSize
     fit =
         let k = h .key in
         let l = key-limits f class name title k in
         let s = h .short in
         let c = bits-fit (f .cycle) (k .0) in
+        let w = width-within (ltb 1000 (f .version)) in
         omega arith
 
     abbrev out : List ℕ
@@ -83,36 +88,40 @@ module _ (f : Fields) (class name title buf : List ℕ) where
     after = drop (f .seekkey + length (headerBytes f class name title)) buf
 
     -- the numbers from SeekKey on, then the strings
-    there-is : drop (f .seekkey) out ≡ valueBytes (keyLayout offsetWidth) numbers ++ (nameBytes class name title ++ after)
+    there-is : drop (f .seekkey) out ≡ valueBytes (keyLayout w) numbers ++ (nameBytes class name title ++ after)
     unfolding headerBytes after
     there-is =
         drop-patch buf (f .seekkey) (headerBytes f class name title) (inside f class name title buf h)
-        ∙ append-assoc (valueBytes (keyLayout offsetWidth) numbers) (nameBytes class name title) after
+        ∙ append-assoc (valueBytes (keyLayout w) numbers) (nameBytes class name title) after
 
-    numbers-there : valuesAt (keyLayout offsetWidth) out (f .seekkey) ≡ numbers
+    numbers-there : valuesAt (keyLayout w) out (f .seekkey) ≡ numbers
     numbers-there =
-        read-written (keyLayout offsetWidth) numbers out (f .seekkey) (nameBytes class name title ++ after) fit
+        read-written (keyLayout w) numbers out (f .seekkey) (nameBytes class name title ++ after) fit
         (omega (arith, out-long, h .room)) there-is
 
     first : numAt 4 out (f .seekkey) ≡ f .nbytes
     first = ap (λ (ns : List ℕ). getD ns 0 0) numbers-there
 
+    -- the Version there has the width that was written
+    width-there : widthAt out (f .seekkey) ≡ w
+    width-there = ap (λ (ns : List ℕ). offsetWidth (getD ns 1 0)) numbers-there
+
     tail : drop at out ≡ textBytes class ++ (textBytes name ++ (textBytes title ++ after))
     unfolding nameBytes
     tail =
-        sym (drop-drop (fixedPart offsetWidth) (f .seekkey) out)
-        ∙ ap (drop (fixedPart offsetWidth)) there-is
-        ∙ drop-at (valueBytes (keyLayout offsetWidth) numbers) _ (fixedPart offsetWidth) (length-values (keyLayout offsetWidth) numbers)
+        sym (drop-drop (fixedPart w) (f .seekkey) out)
+        ∙ ap (drop (fixedPart w)) there-is
+        ∙ drop-at (valueBytes (keyLayout w) numbers) _ (fixedPart w) (length-values (keyLayout w) numbers)
         ∙ simp append-assoc
 
     abbrev end : ℕ
     end = f .seekkey + f .nbytes
 
-    room-there : (f .seekkey + sumBytes class name title ≤ end) × (end ≤ length out)
+    room-there : (f .seekkey + sumBytes (f .version) class name title ≤ end) × (end ≤ length out)
     room-there = omega (arith, out-long, h .room, key-limits f class name title (h .key))
 
     -- a string of the header, where it was written; what follows it in the header takes n bytes
-    string-there : (q : ℕ) (t rest : List ℕ) (n : ℕ) → length t < 255 → q + textSize (length t) + n ≡ f .seekkey + sumBytes class name title
+    string-there : (q : ℕ) (t rest : List ℕ) (n : ℕ) → length t < 255 → q + textSize (length t) + n ≡ f .seekkey + sumBytes (f .version) class name title
         → drop q out ≡ textBytes t ++ rest
         → (Held (textOf q (length t)) ≡ textIn out q end) × (contentOf out (textOf q (length t)) ≡ t)
         × (drop (q + textSize (length t)) out ≡ rest)
@@ -141,20 +150,23 @@ module _ (f : Fields) (class name title buf : List ℕ) where
 
     strings-there : Strings out (f .seekkey) end names
     unfolding textOf
-    strings-there = strings out (f .seekkey) end (all-names out _ end (class-there .0) (name-there .0) (title-there .0))
+    strings-there =
+        strings out (f .seekkey) end (ap (λ (v : ℕ). f .seekkey + fixedPart v) (sym width-there))
+        (all-names out _ end (class-there .0) (name-there .0) (title-there .0))
 
     -- the key of the numbers and strings that were written
     key-there : keyOf f class name title ≡ keyAt out (f .seekkey) names
     unfolding keyOf keyAt
     key-there =
         sym
-        (ap (λ (ns : List ℕ). keyFrom ns names) numbers-there
+        (ap (λ (v : ℕ). keyFrom (valuesAt (keyLayout v) out (f .seekkey)) names) width-there
+        ∙ ap (λ (ns : List ℕ). keyFrom ns names) numbers-there
         ∙ λ i. record {
           nbytes = f .nbytes;
           version = f .version;
           objlen = f .objlen;
           datime = f .datime;
-          keylen = sumBytes class name title;
+          keylen = sumBytes (f .version) class name title;
           cycle = signed-bits (f .cycle) (h .key .0) i;
           seekkey = f .seekkey;
           seekpdir = f .seekpdir;

@@ -17,7 +17,7 @@ use Rattle.wire.specs.Text.{textSize, textOf, contentOf}
 use Rattle.wire.proofs.Checks.{below-or}
 use Rattle.wire.proofs.Layouts.{write-read, values-fit}
 use Rattle.wire.proofs.Texts.{read-length, read-again}
-use Rattle.key.specs.Header.{keyLayout, fixedPart, keyAt, sumOf}
+use Rattle.key.specs.Header.{keyLayout, fixedPart, widthAt, keyAt, sumOf}
 use Rattle.key.specs.Piece.{sizeAt, pieceAt, answerOf, pieceAnswer}
 use Rattle.key.specs.declared.header.Key.{Key}
 use Rattle.key.specs.declared.header.Names.{Names}
@@ -55,7 +55,7 @@ module _ (s : List ℕ) (p : ℕ) (b : Bytes s) (n : Names) (h : Recorded s p (k
 
   -- the place of the strings, and they as they were read
   abbrev q : ℕ
-  q = p + fixedPart offsetWidth
+  q = p + fixedPart (widthAt s p)
 
   there : Strings s p (p + sizeAt s p) (namesOf k)
   there = h .header .strings
@@ -63,18 +63,18 @@ module _ (s : List ℕ) (p : ℕ) (b : Bytes s) (n : Names) (h : Recorded s p (k
   lengths : (length class ≡ k .class .len) × (length name ≡ k .name .len) × (length title ≡ k .title .len)
   lengths = (read-length (there .class), read-length (there .name), read-length (there .title))
 
-  sum-is : sumBytes class name title ≡ k .keylen
+  sum-is : sumBytes (k .version) class name title ≡ k .keylen
   sum-is = rw (lengths .0, lengths .1, lengths .2) (sym plain)
 
-  numbers-room : p + extent (keyLayout offsetWidth) ≤ length s
+  numbers-room : p + extent (keyLayout (widthAt s p)) ≤ length s
   numbers-room = let t = there .title in let m = there .name .next in let l = there .class .next in omega (arith, t .next, t .fits, t .room)
 
-  fit : Fit (keyLayout offsetWidth) (valuesAt (keyLayout offsetWidth) s p)
-  fit = values-fit (keyLayout offsetWidth) s p b numbers-room
+  fit : Fit (keyLayout (widthAt s p)) (valuesAt (keyLayout (widthAt s p)) s p)
+  fit = values-fit (keyLayout (widthAt s p)) s p b numbers-room
 
-  numbers : valueBytes (keyLayout offsetWidth) (numbersOf (fieldsOf k) (k .keylen)) ≡ take (fixedPart offsetWidth) (drop p s)
+  numbers : valueBytes (keyLayout (offsetWidth (k .version))) (numbersOf (fieldsOf k) (k .keylen)) ≡ take (fixedPart (widthAt s p)) (drop p s)
   unfolding keyAt
-  numbers = rw (bits-signed _ (fit .1 .1 .1 .1 .1 .0) .0) (write-read (keyLayout offsetWidth) s p b numbers-room)
+  numbers = rw (bits-signed _ (fit .1 .1 .1 .1 .1 .0) .0) (write-read (keyLayout (widthAt s p)) s p b numbers-room)
 
   names : nameBytes class name title
       ≡ take (textSize (k .class .len) + textSize (k .name .len) + textSize (k .title .len)) (drop q s)
@@ -92,9 +92,9 @@ module _ (s : List ℕ) (p : ℕ) (b : Bytes s) (n : Names) (h : Recorded s p (k
   header-again : headerBytes (fieldsOf k) class name title ≡ take (k .keylen) (drop p s)
   unfolding headerBytes
   header-again =
-      let m : fixedPart offsetWidth + (textSize (k .class .len) + textSize (k .name .len) + textSize (k .title .len)) ≡ k .keylen
+      let m : fixedPart (widthAt s p) + (textSize (k .class .len) + textSize (k .name .len) + textSize (k .title .len)) ≡ k .keylen
       = omega (arith, plain) in
-      rw (sum-is, numbers, names, join s p q (fixedPart offsetWidth) _ refl, m)
+      rw (sum-is, numbers, names, join s p q (fixedPart (widthAt s p)) _ refl, m)
 
   -- the key passes the writer's tests
   fields : All (keyFits (fieldsOf k) class name title)

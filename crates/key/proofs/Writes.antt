@@ -1,5 +1,5 @@
 -- The key writer: its answer and its buffer, from facts.
-use Prim.Native.Nat.{ℕ, _+_, _≤_, _<_}
+use Prim.Native.Nat.{ℕ, _+_, _^_, _≤_, _<_}
 use mathlib.Core.List.{List, [], _∷_}
 use mathlib.Core.Path.{_≡_, refl, sym, _∙_}
 use native.Mathlib.Omega.{arith}
@@ -28,11 +28,11 @@ pub length-names : (a b c : List ℕ) → length (nameBytes a b c) ≡ textSize 
 unfolding nameBytes
 length-names a b c = simp length-append (omega (arith, length-text a, length-text b, length-text c))
 
-pub length-header : (f : Fields) (a b c : List ℕ) → length (headerBytes f a b c) ≡ sumBytes a b c
+pub length-header : (f : Fields) (a b c : List ℕ) → length (headerBytes f a b c) ≡ sumBytes (f .version) a b c
 unfolding headerBytes
 length-header f a b c =
-    length-append (valueBytes (keyLayout offsetWidth) (numbersOf f (sumBytes a b c))) (nameBytes a b c)
-    ∙ omega (arith, length-values (keyLayout offsetWidth) (numbersOf f (sumBytes a b c)), length-names a b c)
+    length-append (valueBytes (keyLayout (offsetWidth (f .version))) (numbersOf f (sumBytes (f .version) a b c))) (nameBytes a b c)
+    ∙ omega (arith, length-values (keyLayout (offsetWidth (f .version))) (numbersOf f (sumBytes (f .version) a b c)), length-names a b c)
 
 -- a signed number's bits, held or not
 pub from-wide : {y z : ℤ} → y ≡ z → bits.Wide ≡ bits16 y → mag z < 32768 → ⊥
@@ -54,11 +54,12 @@ from-bits {y} {z} {n} i e = held-bits z n _ refl (rw (← i) e)
 
 module _ (f : Fields) (class name title : List ℕ) where
   abbrev pub Limits : Type 0
-  Limits = All (limits (f .nbytes) (f .version) (f .objlen) (sumBytes class name title) (sumBytes class name title))
+  Limits = All (limits (f .nbytes) (f .version) (f .objlen) (sumBytes (f .version) class name title) (sumBytes (f .version) class name title))
 
-  pub key-fits : mag (f .cycle) < 32768 → f .seekkey ≤ 4294967295 → f .seekpdir ≤ 4294967295 → Limits → All (keyFits f class name title)
+  pub key-fits : mag (f .cycle) < 32768 → f .seekkey < 256 ^ offsetWidth (f .version) → f .seekpdir < 256 ^ offsetWidth (f .version)
+      → Limits → All (keyFits f class name title)
   unfolding keyOf textOf
-  key-fits m k p l = (m, (omega arith, (omega arith, l)))
+  key-fits m k p l = (m, (k, (p, l)))
 
   pub key-limits : All (keyFits f class name title) → Limits
   unfolding keyOf textOf
@@ -103,7 +104,7 @@ module _ (f : Fields) (class name title buf : List ℕ) where
           not-all (le (f .seekkey + f .nbytes) (length buf) ∷ []) (λ i. omega (arith, i)),
         ))
 
-  pub answer-is : Accepted → writeAnswer f class name title buf ≡ done (sumBytes class name title)
+  pub answer-is : Accepted → writeAnswer f class name title buf ≡ done (sumBytes (f .version) class name title)
   unfolding writeAnswer
   answer-is h =
       rw (
@@ -116,6 +117,6 @@ module _ (f : Fields) (class name title buf : List ℕ) where
   unfolding writeBuffer
   buffer-is h = rw (answer-is h)
 
-  pub wrote : {r : Answer} {w : List ℕ} → Accepted → r ≡ done (sumBytes class name title)
+  pub wrote : {r : Answer} {w : List ℕ} → Accepted → r ≡ done (sumBytes (f .version) class name title)
       → w ≡ patch buf (f .seekkey) (headerBytes f class name title) → Wrote r w
   wrote h e i = (e ∙ sym (answer-is h), i ∙ sym (buffer-is h))

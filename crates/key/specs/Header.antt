@@ -1,11 +1,11 @@
--- Key headers: document 01, "Key headers (000)".
+-- Key headers: document 01, "Key headers (000)"; document 02, request 02, for the width of their offsets.
 use Prim.Native.Nat.{ℕ, _+_}
 use mathlib.Core.Bool.{Bool}
 use mathlib.Core.List.{List, [], _∷_}
 use lib.ListN.{getD}
 use Rattle.wire.specs.Check.{Check, le, eq, all, pick}
-use Rattle.wire.specs.Layout.{offsetWidth, extent, valuesAt}
-use Rattle.wire.specs.Number.{signedOf}
+use Rattle.wire.specs.Layout.{offsetWidth, versionFits, extent, valuesAt}
+use Rattle.wire.specs.Number.{numAt, signedOf}
 use Rattle.wire.specs.Text.{textIn, onText, textSize}
 use Rattle.key.specs.declared.header.Names.{Names}
 use Rattle.key.specs.declared.header.Named.{Named}
@@ -47,19 +47,23 @@ keyFrom ns t = record {
   title = t .title;
 }
 
+-- the width of the offsets of the key at p: its Version stands before them
+abbrev pub widthAt : List ℕ → ℕ → ℕ
+widthAt s p = offsetWidth (numAt 2 s (p + 4))
+
 -- the key at p, of the numbers there and of strings that were read
 unfoldable pub keyAt : List ℕ → ℕ → Names → Key
-keyAt s p t = keyFrom (valuesAt (keyLayout offsetWidth) s p) t
+keyAt s p t = keyFrom (valuesAt (keyLayout (widthAt s p)) s p) t
 
--- "sum": 26 plus the strings with their length bytes
+-- "sum": 26, or 34 in the wide form, plus the strings with their length bytes
 abbrev pub sumOf : Key → ℕ
-sumOf k = fixedPart offsetWidth + textSize (k .class .len) + textSize (k .name .len) + textSize (k .title .len)
+sumOf k = fixedPart (offsetWidth (k .version)) + textSize (k .class .len) + textSize (k .name .len) + textSize (k .title .len)
 
--- "well formed", of Nbytes, Version, ObjLen, KeyLen and sum: Version is 1 to 1000, ObjLen and Nbytes are at most 2,147,483,647,
+-- "well formed", of Nbytes, Version, ObjLen, KeyLen and sum: Version is 1 to 2000, ObjLen and Nbytes are at most 2,147,483,647,
 -- sum ≤ KeyLen ≤ Nbytes; that no length byte is 255 is a test of each string
 abbrev pub limits : ℕ → ℕ → ℕ → ℕ → ℕ → List Check
 limits nbytes version objlen keylen sum =
-    le 1 version ∷ le version 1000 ∷ le objlen 2147483647 ∷ le nbytes 2147483647 ∷ le sum keylen ∷ le keylen nbytes ∷ []
+    le 1 version ∷ versionFits version ∷ le objlen 2147483647 ∷ le nbytes 2147483647 ∷ le sum keylen ∷ le keylen nbytes ∷ []
 
 unfoldable pub inLimits : ℕ → ℕ → ℕ → ℕ → ℕ → Bool
 inLimits nbytes version objlen keylen sum = all (limits nbytes version objlen keylen sum)
@@ -82,4 +86,4 @@ headerOf k Cut = Bad
 
 -- the header at p, read within the bytes before end: its strings end there, and so all that is read lies there
 unfoldable pub headerIn : List ℕ → ℕ → ℕ → Header
-headerIn s p end = headerOf (keyAt s p) (namesIn s (p + fixedPart offsetWidth) end)
+headerIn s p end = headerOf (keyAt s p) (namesIn s (p + fixedPart (widthAt s p)) end)

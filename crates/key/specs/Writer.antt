@@ -1,5 +1,5 @@
--- Headers as they are written: document 01, "The key writer takes the fields but KeyLen ..."; and that reading and writing undo each
--- other.
+-- Headers as they are written: document 01, "The key writer takes the fields but KeyLen ..."; document 02, request 02, for the width of
+-- their offsets; and that reading and writing undo each other.
 use Prim.Native.Nat.{ℕ, _+_, _^_, _≤_}
 use mathlib.Core.List.{List, [], _∷_, _++_}
 use mathlib.Core.Path.{_≡_}
@@ -24,9 +24,9 @@ use Rattle.key.specs.declared.piece.Piece.the-variants.{Record}
 unfoldable pub nameBytes : List ℕ → List ℕ → List ℕ → List ℕ
 nameBytes class name title = textBytes class ++ textBytes name ++ textBytes title
 
--- the sum of a header with these strings
-abbrev pub sumBytes : List ℕ → List ℕ → List ℕ → ℕ
-sumBytes class name title = fixedPart offsetWidth + textSize (length class) + textSize (length name) + textSize (length title)
+-- the sum of a header with this Version and these strings
+abbrev pub sumBytes : ℕ → List ℕ → List ℕ → List ℕ → ℕ
+sumBytes version class name title = fixedPart (offsetWidth version) + textSize (length class) + textSize (length name) + textSize (length title)
 
 -- the numbers of a header in the order of the layout: KeyLen is given, Cycle is its two bytes
 abbrev pub numbersOf : Fields → ℕ → List ℕ
@@ -36,7 +36,7 @@ numbersOf f keylen =
 -- the header's bytes
 unfoldable pub headerBytes : Fields → List ℕ → List ℕ → List ℕ → List ℕ
 headerBytes f class name title =
-    valueBytes (keyLayout offsetWidth) (numbersOf f (sumBytes class name title)) ++ nameBytes class name title
+    valueBytes (keyLayout (offsetWidth (f .version))) (numbersOf f (sumBytes (f .version) class name title)) ++ nameBytes class name title
 
 -- the key that is written, at its SeekKey: KeyLen is the sum
 unfoldable pub keyOf : Fields → List ℕ → List ℕ → List ℕ → Key
@@ -45,13 +45,13 @@ keyOf f class name title = record {
   version = f .version;
   objlen = f .objlen;
   datime = f .datime;
-  keylen = sumBytes class name title;
+  keylen = sumBytes (f .version) class name title;
   cycle = f .cycle;
   seekkey = f .seekkey;
   seekpdir = f .seekpdir;
-  class = textOf (f .seekkey + fixedPart offsetWidth) (length class);
-  name = textOf (f .seekkey + fixedPart offsetWidth + textSize (length class)) (length name);
-  title = textOf (f .seekkey + fixedPart offsetWidth + textSize (length class) + textSize (length name)) (length title);
+  class = textOf (f .seekkey + fixedPart (offsetWidth (f .version))) (length class);
+  name = textOf (f .seekkey + fixedPart (offsetWidth (f .version)) + textSize (length class)) (length name);
+  title = textOf (f .seekkey + fixedPart (offsetWidth (f .version)) + textSize (length class) + textSize (length name)) (length title);
 }
 
 -- the fields of a key that was read, to be written again
@@ -70,10 +70,10 @@ fieldsOf k = record {
 abbrev pub namesShort : List ℕ → List ℕ → List ℕ → List Check
 namesShort class name title = lengthFits (length class) ∷ lengthFits (length name) ∷ lengthFits (length title) ∷ []
 
--- 16 field: header not well formed, or a value that does not fit its field
+-- 16 field: header not well formed, or a value that does not fit its field, as an offset past 32 bits in a narrow key
 abbrev pub keyFits : Fields → List ℕ → List ℕ → List ℕ → List Check
 keyFits f class name title =
-    lt (mag (f .cycle)) 32768 ∷ lt (f .seekkey) (256 ^ offsetWidth) ∷ lt (f .seekpdir) (256 ^ offsetWidth)
+    lt (mag (f .cycle)) 32768 ∷ lt (f .seekkey) (256 ^ offsetWidth (f .version)) ∷ lt (f .seekpdir) (256 ^ offsetWidth (f .version))
     ∷ wellFormed (keyOf f class name title)
 
 -- number, place and count, in the order 15, 16, 17; on success the count is KeyLen
@@ -81,7 +81,7 @@ unfoldable pub writeAnswer : Fields → List ℕ → List ℕ → List ℕ → L
 writeAnswer f class name title buf =
     pick (all (namesShort class name title))
     (pick (all (keyFits f class name title))
-    (pick (all (le (f .seekkey + f .nbytes) (length buf) ∷ [])) (done (sumBytes class name title)) (refusal 17 0))
+    (pick (all (le (f .seekkey + f .nbytes) (length buf) ∷ [])) (done (sumBytes (f .version) class name title)) (refusal 17 0))
     (refusal 16 0))
     (refusal 15 0)
 

@@ -1,18 +1,25 @@
-// Key headers (document 000).
+// Key headers (document 000, and 003 for the wide form).
 ghost use mathlib.Core.Path.{_≡_};
 ghost use Prim.Native.Nat.{_+_, _≤_};
 ghost use Rattle.wire.specs.Layout.{offsetWidth};
 ghost use Rattle.wire.specs.Lent.{before};
+ghost use Rattle.wire.specs.Number.{numAt};
 ghost use Rattle.key.specs.Header.{fixedPart, keyAt, inLimits, headerIn, namesIn};
+use wire::number::be_offset;
 use wire::number::be16;
 use wire::number::be32;
 use wire::number::signed16;
+use wire::number::width;
 use wire::text::Found;
 use wire::text::Text;
 use wire::text::read_text;
 
-// The bytes of a header before its strings.
-pub const FIXED: usize = 26;
+// The bytes of a header before its strings, by its Version.
+pub fn fixed_part(version: u32) -> usize
+    ensures { λ r. ⌜ (r ≡ fixedPart (offsetWidth version)) × (r ≤ 34) ⌝ }
+{
+    18 + 2 * width(1000 < version)
+}
 
 // The fields of a key header, and where its strings stand.
 pub struct Key {
@@ -75,23 +82,24 @@ fn read_names(s: &[u8], at: usize, end: usize) -> Named
     Named::Held(Names { class, name, title })
 }
 
-// The key at a place, with strings that were read.
-fn read_key(s: &[u8], at: usize, names: Names) -> Key
-    requires { ⌜ at + fixedPart offsetWidth ≤ 18446744073709551615 ⌝ }
+// The key at a place, with its Version and strings, which were read.
+fn read_key(s: &[u8], at: usize, version: u32, names: Names) -> Key
+    requires { ⌜ (version ≡ numAt 2 (now s) (at + 4)) × (at + fixedPart (offsetWidth version) ≤ 18446744073709551615) ⌝ }
     ensures { λ r. ⌜ r ≡ keyAt (before s) at names ⌝ }
 {
     let class = names.class;
     let name = names.name;
     let title = names.title;
+    let wide = 1000 < version;
     Key {
         nbytes: be32(s, at),
-        version: be16(s, at + 4),
+        version,
         objlen: be32(s, at + 6),
         datime: be32(s, at + 10),
         keylen: be16(s, at + 14),
         cycle: signed16(be16(s, at + 16) as u16),
-        seekkey: be32(s, at + 18) as u64,
-        seekpdir: be32(s, at + 22) as u64,
+        seekkey: be_offset(s, at + 18, wide),
+        seekpdir: be_offset(s, at + (18 + width(wide)), wide),
         class,
         name,
         title,
@@ -105,7 +113,7 @@ pub fn is_formed(nbytes: u32, version: u32, objlen: u32, keylen: u32, sum: usize
     if version < 1 {
         return false;
     }
-    if 1000 < version {
+    if 2000 < version {
         return false;
     }
     if 2147483647 < objlen {
@@ -123,22 +131,31 @@ pub fn is_formed(nbytes: u32, version: u32, objlen: u32, keylen: u32, sum: usize
     true
 }
 
-// The header at a place, read within the bytes before end: well formed, or bad; bad too where end is past the slice.
+// The header at a place, read within the bytes before end: well formed, or bad; bad too where end is past the slice. No header has
+// fewer than the 26 bytes of the narrow numbers and a length byte, so that its Version is read only where they are there.
 pub fn read_header(s: &[u8], at: usize, end: usize) -> Header
     ensures { λ r. ⌜ r ≡ headerIn (before s) at end ⌝ }
 {
+    if s.len() < end {
+        return Header::Bad;
+    }
     if end <= at {
         return Header::Bad;
     }
-    if end - at <= FIXED {
+    if end - at <= 26 {
         return Header::Bad;
     }
-    let Named::Held(names) = read_names(s, at + FIXED, end) else {
+    let version = be16(s, at + 4);
+    let fixed = fixed_part(version);
+    if end - at <= fixed {
+        return Header::Bad;
+    }
+    let Named::Held(names) = read_names(s, at + fixed, end) else {
         return Header::Bad;
     };
     let title = names.title;
     let next = title.next;
-    let k = read_key(s, at, names);
+    let k = read_key(s, at, version, names);
     if is_formed(k.nbytes, k.version, k.objlen, k.keylen, next - at) {
         return Header::Good(k);
     }

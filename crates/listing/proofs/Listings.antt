@@ -15,21 +15,21 @@ use Rattle.report.proofs.Reports.{wrote-within, wrote-all}
 use Rattle.wire.specs.Lent.{Lent, before, after}
 use Rattle.rules.specs.Order.{verdict}
 use Rattle.audit.specs.Tables.{told, Audits}
-use Rattle.listing.specs.Listing.{room, reported, tooLong, listingOf, inputRoom, Lists}
+use Rattle.listing.specs.Listing.{room, reported, tooLong, inputLimit, listingOf, inputRoom, Lists}
 use Rattle.listing.proofs.Rooms.{listing-short}
 use Rattle.listing.proofs.Sizes.{printed-sizes}
 
 -- a text depends on no more of an input than there is room for
 text-whole : (s t : List ℕ) → s ≡ take inputRoom t → listingOf s ≡ listingOf t
 unfolding listingOf
-text-whole s t e = go (leb (length t) 49152) refl
+text-whole s t e = go (leb (length t) inputLimit) refl
   where
-    go : (b : Bool) → leb (length t) 49152 ≡ b → listingOf s ≡ listingOf t
-    go true h = let l = leb-true (length t) 49152 h in ap listingOf (e ∙ take-all inputRoom t (omega arith))
+    go : (b : Bool) → leb (length t) inputLimit ≡ b → listingOf s ≡ listingOf t
+    go true h = let l = leb-true (length t) inputLimit h in ap listingOf (e ∙ take-all inputRoom t (omega arith))
     go false h =
-        let l = leb-false (length t) 49152 h in
-        let m : length s ≡ 49153 = ap length e ∙ length-take-le inputRoom t (omega arith) in
-        rw (lt-leb (length s) 49152 (omega arith), h)
+        let l = leb-false (length t) inputLimit h in
+        let m : length s ≡ inputRoom = ap length e ∙ length-take-le inputRoom t (omega arith) in
+        rw (lt-leb (length s) inputLimit (omega arith), h)
 
 module _ (s out : List ℕ) {out′ : List ℕ} {r : Answer} where
   lists : {text : List ℕ} → listingOf s ≡ text → Wrote text out r out′ → Lists s out out′ r
@@ -43,19 +43,19 @@ module _ (s out : List ℕ) {out′ : List ℕ} {r : Answer} where
         whole = λ t. text-whole s t;
       }
 
-  pub is-long : 49152 < length s → Wrote tooLong out r out′ → Lists s out out′ r
+  pub is-long : inputLimit < length s → Wrote tooLong out r out′ → Lists s out out′ r
   unfolding listingOf
-  is-long l h = lists (rw (lt-leb (length s) 49152 l)) h
+  is-long l h = lists (rw (lt-leb (length s) inputLimit l)) h
 
 pub zeros : length (replicate {A = ℕ} room 0) ≡ room
 zeros = length-replicate {A = ℕ} room 0
 
 pub is-listed : {file start part owner : Lent} {a : Answer} → Audits file start part owner a
-    → length (before start) ≡ room → length (before part) ≡ room → length (before owner) ≡ room → length (before file) ≤ 49152
+    → length (before start) ≡ room → length (before part) ≡ room → length (before owner) ≡ room → length (before file) ≤ inputLimit
     → (out : List ℕ) {out′ : List ℕ} {r : Answer}
     → Wrote (reportOf a (after start) (after part) (after owner) (length (before file))) out r out′ → Lists (before file) out out′ r
 unfolding listingOf reported
 is-listed {file} {start} {part} {owner} {a} u e f g l out h =
     let k : told file start part owner ≡ verdict (before file) room = ap (verdict (before file)) (rw (e, f, g)) in
     lists (before file) out
-    (rw (le-leb (length (before file)) 49152 l, ← k, same-answer (u .number) (u .place) (u .count), u .starts, u .parts, u .owners, e, f, g)) h
+    (rw (le-leb (length (before file)) inputLimit l, ← k, same-answer (u .number) (u .place) (u .count), u .starts, u .parts, u .owners, e, f, g)) h

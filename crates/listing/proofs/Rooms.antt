@@ -19,7 +19,7 @@ use Rattle.table.specs.Table.{filled}
 use Rattle.report.specs.Report.{rowsOf, reportOf}
 use Rattle.report.proofs.Listed.{rows-within}
 use Rattle.report.proofs.Reports.{report-short}
-use Rattle.listing.specs.Listing.{room, reported, tooLong, listingOf}
+use Rattle.listing.specs.Listing.{room, reported, tooLong, inputLimit, listingOf}
 
 -- a pass has no more rows than there is room for
 module _ (s : List ℕ) (room : ℕ) where
@@ -56,7 +56,7 @@ reported-short s v l = short-enough _ (filled (startsOf v) room) _ _ (length s) 
 
 pub listing-short : (s : List ℕ) → length (listingOf s) ≤ 73800
 unfolding listingOf
-listing-short s = go (leb (length s) 49152)
+listing-short s = go (leb (length s) inputLimit)
   where
     go : (t : Bool) → length (pick t (reported s (verdict s 1024)) tooLong) ≤ 73800
     go true = reported-short s (verdict s 1024) (rows-room s 1024)

@@ -26,13 +26,17 @@ reported s v =
 abbrev pub tooLong : List ℕ
 tooLong = 105 ∷ 110 ∷ 112 ∷ 117 ∷ 116 ∷ 32 ∷ 116 ∷ 111 ∷ 111 ∷ 32 ∷ 108 ∷ 111 ∷ 110 ∷ 103 ∷ 10 ∷ []
 
--- "reads standard input up to 49,152 bytes": the text for the bytes s
+-- the bytes of standard input that are taken (document 02, request 02)
+abbrev pub inputLimit : ℕ
+inputLimit = 32768
+
+-- the text for the bytes s
 unfoldable pub listingOf : List ℕ → List ℕ
-listingOf s = pick (leb (length s) 49152) (reported s (verdict s room)) tooLong
+listingOf s = pick (leb (length s) inputLimit) (reported s (verdict s room)) tooLong
 
 -- room for the input: one byte more than is taken, so that an input that is too long is seen; and room for the text of every input
 abbrev pub inputRoom : ℕ
-inputRoom = 49153
+inputRoom = 32769
 
 abbrev pub textRoom : ℕ
 textRoom = 73800

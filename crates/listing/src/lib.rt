@@ -9,10 +9,10 @@ use report::write_text;
 use wire::Answer;
 
 // A buffer for the input.
-pub fn input_buffer() -> [u8; 49153]
+pub fn input_buffer() -> [u8; 32769]
     ensures { λ r. ⌜ r ≡ replicate inputRoom 0 ⌝ }
 {
-    [0; 49153]
+    [0; 32769]
 }
 
 // A buffer for the text.
@@ -27,12 +27,12 @@ pub fn text_buffer() -> [u8; 73800]
 pub fn list(file: &[u8], out: &mut [u8]) -> Answer
     ensures { λ r. ⌜ Lists (before file) (before out) (after out) r ⌝ }
 {
-    if 49152 < file.len() {
+    if 32768 < file.len() {
         return write_text(b"input too long\n", out);
     }
-    let mut start = [0u32; 1024];
-    let mut part = [0u32; 1024];
-    let mut owner = [0u32; 1024];
+    let mut start = [0u64; 1024];
+    let mut part = [0u64; 1024];
+    let mut owner = [0u64; 1024];
     let a = audit(file, &mut start, &mut part, &mut owner);
     write_report(a, &start, &part, &owner, file.len(), out)
 }

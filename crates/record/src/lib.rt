@@ -6,8 +6,8 @@ ghost use Rattle.wire.specs.Lent.{before};
 ghost use Rattle.wire.specs.Name.{tFile, tDirectory};
 ghost use Rattle.key.specs.Header.{plain, unpackedData};
 ghost use Rattle.record.specs.Name.{sameBytes, named, plainRecord, isInfo};
-use key::header::FIXED;
 use key::header::Key;
+use key::header::fixed_part;
 use wire::text::Text;
 use wire::text::same;
 
@@ -30,7 +30,7 @@ pub fn is_plain(k: Key) -> bool
     if 4294967295 < c {
         return false;
     }
-    k.keylen as usize == FIXED + (1 + a) + (1 + b) + (1 + c)
+    k.keylen as usize == fixed_part(k.version) + (1 + a) + (1 + b) + (1 + c)
 }
 
 // Whether the data is not packed.

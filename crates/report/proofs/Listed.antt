@@ -66,10 +66,10 @@ pub record Fitting (start part owner : List ℕ) (n end first room left i : ℕ)
 
 module _ (start part owner : List ℕ) (n end : ℕ) where
   -- a row's line from its numbers
-  pub is-row : (i : ℕ) {p q d o : ℕ} → p ≡ getD start i 0 → q ≡ nextPlace start n end i → d ≡ q - p → o ≡ getD owner i 0
-      → row start part owner n end i ≡ line p d (getD part i 0) o
+  pub is-row : (i : ℕ) {q d : ℕ} → q ≡ nextPlace start n end i → d ≡ q - getD start i 0
+      → row start part owner n end i ≡ line (getD start i 0) d (getD part i 0) (getD owner i 0)
   unfolding row
-  is-row i e f g h = rw (g, e, f, h)
+  is-row i e f = rw (f, e)
 
   pub row-short : (i : ℕ) → length (row start part owner n end i) ≤ 72
   unfolding row

@@ -17,7 +17,7 @@ mod line;
 mod rows;
 
 // How many rows are listed.
-fn count_rows(a: Answer, start: &[u32], part: &[u32], owner: &[u32]) -> usize
+fn count_rows(a: Answer, start: &[u64], part: &[u64], owner: &[u64]) -> usize
     ensures { λ r. ⌜ r ≡ rowsOf a (before start) (before part) (before owner) ⌝ }
 {
     if a.number != 0 {
@@ -53,9 +53,9 @@ pub fn write_text(text: &[u8], out: &mut [u8]) -> Answer
 // bytes. 17, and nothing is written, where the buffer cannot hold it: 72 bytes a line always do.
 pub fn write_report(
     a: Answer,
-    start: &[u32],
-    part: &[u32],
-    owner: &[u32],
+    start: &[u64],
+    part: &[u64],
+    owner: &[u64],
     end: usize,
     out: &mut [u8],
 ) -> Answer

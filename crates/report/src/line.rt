@@ -7,7 +7,7 @@ use crate::field::put_text;
 use wire::Answer;
 
 // Writes a part's name and a space.
-fn put_name(out: &mut [u8], at: usize, part: u32) -> usize
+fn put_name(out: &mut [u8], at: usize, part: u64) -> usize
     requires { ⌜ Room (now out) at (spaced (partName part)) ⌝ }
     ensures { λ r. ⌜ Put (before out) at (spaced (partName part)) (after out) r ⌝ }
 {
@@ -44,7 +44,7 @@ pub(crate) fn put_line(
     at: usize,
     place: u64,
     size: u64,
-    part: u32,
+    part: u64,
     owner: u64,
 ) -> usize
     requires { ⌜ Room (now out) at (line place size part owner) ⌝ }

@@ -7,7 +7,6 @@ ghost use Rattle.wire.specs.Lent.{before, after};
 ghost use Rattle.report.specs.Put.{Room, Put};
 ghost use Rattle.report.specs.Report.{nextPlace, row, lines};
 use crate::line::put_line;
-use table::long;
 
 fn difference(a: u64, b: u64) -> u64
     ensures { λ r. ⌜ r ≡ a - b ⌝ }
@@ -19,12 +18,12 @@ fn difference(a: u64, b: u64) -> u64
 }
 
 // Where the piece of a row ends.
-fn next_place(start: &[u32], n: usize, end: usize, i: usize) -> u64
+fn next_place(start: &[u64], n: usize, end: usize, i: usize) -> u64
     requires { ⌜ (i < n) × (n ≤ length (now start)) ⌝ }
     ensures { λ r. ⌜ r ≡ nextPlace (before start) n end i ⌝ }
 {
     if i + 1 < n {
-        return long(start[i + 1]) as u64;
+        return start[i + 1];
     }
     end as u64
 }
@@ -33,9 +32,9 @@ fn next_place(start: &[u32], n: usize, end: usize, i: usize) -> u64
 fn put_row(
     out: &mut [u8],
     at: usize,
-    start: &[u32],
-    part: &[u32],
-    owner: &[u32],
+    start: &[u64],
+    part: &[u64],
+    owner: &[u64],
     n: usize,
     end: usize,
     i: usize,
@@ -45,13 +44,13 @@ fn put_row(
     ensures { λ r. ⌜ Put (before out) at (row (before start) (before part) (before owner) n end i)
         (after out) r ⌝ }
 {
-    let place = long(start[i]) as u64;
+    let place = start[i];
     let size = difference(next_place(start, n, end, i), place);
-    put_line(out, at, place, size, part[i], long(owner[i]) as u64)
+    put_line(out, at, place, size, part[i], owner[i])
 }
 
 // The length of the line of a row.
-fn row_length(start: &[u32], part: &[u32], owner: &[u32], n: usize, end: usize, i: usize) -> usize
+fn row_length(start: &[u64], part: &[u64], owner: &[u64], n: usize, end: usize, i: usize) -> usize
     requires { ⌜ (i < n) × (n ≤ length (now start)) × (n ≤ length (now part)) × (n ≤ length (now owner)) ⌝ }
     ensures { λ r. ⌜ r ≡ length (row (before start) (before part) (before owner) n end i) ⌝ }
 {
@@ -61,9 +60,9 @@ fn row_length(start: &[u32], part: &[u32], owner: &[u32], n: usize, end: usize, 
 
 // Whether the lines of n rows fit in a room, after the first bytes of it.
 pub(crate) fn lines_fit(
-    start: &[u32],
-    part: &[u32],
-    owner: &[u32],
+    start: &[u64],
+    part: &[u64],
+    owner: &[u64],
     n: usize,
     end: usize,
     first: usize,
@@ -92,9 +91,9 @@ pub(crate) fn lines_fit(
 pub(crate) fn put_lines(
     out: &mut [u8],
     first: usize,
-    start: &[u32],
-    part: &[u32],
-    owner: &[u32],
+    start: &[u64],
+    part: &[u64],
+    owner: &[u64],
     n: usize,
     end: usize,
 ) -> usize

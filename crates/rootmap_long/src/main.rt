@@ -1,4 +1,4 @@
-// The program rootmap, run on 49,153 bytes.
+// The program rootmap, run on 32,769 bytes.
 fn main() {
     let mut input = listing::input_buffer();
     let n = io::read_full(0, &mut input);

@@ -1,16 +1,17 @@
 -- Which piece is a gap, from its number and from its size.
-use Prim.Native.Nat.{ℕ, _<_}
+use Prim.Native.Nat.{ℕ, _+_, _<_, _≤_}
 use mathlib.Core.Bool.{true, false}
 use mathlib.Core.List.{List}
 use mathlib.Core.Path.{_≡_, refl, sym, ap, _∙_}
 use native.Mathlib.Omega.{arith}
+use lib.ListN.{length}
 use Rattle.wire.specs.Number.{numAt}
 use Rattle.key.specs.Piece.{pieceAt, sizeOf}
 use Rattle.key.specs.declared.piece.Piece.{Piece}
 use Rattle.key.specs.declared.piece.Piece.the-variants.{Record, Gap, Refused}
 use Rattle.key.proofs.Pieces.{from-gap, no-gap as positive}
 use Rattle.rules.specs.Free.{isGap}
-use Rattle.rows.specs.Segment.{gapOf}
+use Rattle.rows.specs.Gap.{gapOf}
 
 -- a number that is not negative starts no gap
 pub no-gap : (s : List ℕ) (p : ℕ) → numAt 4 s p < 2147483648 → _≡_ {A = ℕ} 0 (gapOf (pieceAt s p))
@@ -38,3 +39,12 @@ module _ (s : List ℕ) (p : ℕ) {n : ℕ} (size : n ≡ gapOf (pieceAt s p)) w
 
   pub gap-some : (n ≡ 0 → ⊥) → (isGap (pieceAt s p) ≡ true) × (sizeOf (pieceAt s p) ≡ n)
   gap-some e = is-gap e (pieceAt s p) refl
+
+  -- a gap ends in the file
+  ends : (r : Piece) → pieceAt s p ≡ r → (n ≡ 0 → ⊥) → p + n ≤ length s
+  ends (Record k) f z = absurd (z (size ∙ ap gapOf f))
+  ends (Gap m) f z = omega (arith, from-gap s p f, size ∙ ap gapOf f)
+  ends (Refused c q) f z = absurd (z (size ∙ ap gapOf f))
+
+  pub gap-ends : (n ≡ 0 → ⊥) → p + n ≤ length s
+  gap-ends = ends (pieceAt s p) refl

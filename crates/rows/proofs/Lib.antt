@@ -1,3 +1,3 @@
-pub mod Frees
 pub mod Gaps
+pub mod Parts
 pub mod Searches

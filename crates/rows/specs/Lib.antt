@@ -1,2 +1,2 @@
+pub mod Gap
 pub mod Row
-pub mod Segment

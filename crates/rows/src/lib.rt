@@ -2,7 +2,6 @@
 // precondition; where it matters, the promise is for a table that rises.
 ghost use Rattle.wire.specs.Lent.{before};
 ghost use Rattle.rows.specs.Row.{RowOf};
-use table::long;
 
 pub mod lists;
 
@@ -12,14 +11,14 @@ pub enum Row {
 }
 
 // The row whose start is the place.
-pub fn find_row(start: &[u32], place: usize) -> Row
+pub fn find_row(start: &[u64], place: usize) -> Row
     ensures { λ r. ⌜ RowOf (before start) place r ⌝ }
 {
     let mut lo: usize = 0;
     let mut hi = start.len();
     while lo < hi {
         let mid = lo + (hi - lo) / 2;
-        let s = long(start[mid]);
+        let s = start[mid] as usize;
         if s == place {
             return Row::At(mid);
         }
@@ -33,11 +32,11 @@ pub fn find_row(start: &[u32], place: usize) -> Row
 }
 
 // The same, where the row is likely to be this one.
-pub fn seek_row(start: &[u32], place: usize, near: usize) -> Row
+pub fn seek_row(start: &[u64], place: usize, near: usize) -> Row
     ensures { λ r. ⌜ RowOf (before start) place r ⌝ }
 {
     if near < start.len() {
-        if long(start[near]) == place {
+        if start[near] as usize == place {
             return Row::At(near);
         }
     }

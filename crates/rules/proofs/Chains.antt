@@ -13,7 +13,7 @@ use Rattle.key.specs.Piece.{pieceAt, sizeOf}
 use Rattle.key.specs.declared.piece.Piece.{Piece}
 use Rattle.key.specs.declared.piece.Piece.the-variants.{Record, Gap, Refused}
 use Rattle.key.proofs.Pieces.{size-fits, from-gap, from-refused, refused-number, record-sized}
-use Rattle.fileheader.specs.File.{openedAs, fileHead, longEnough, magic, narrow, bounds}
+use Rattle.fileheader.specs.File.{openedAs, fileHead, longEnough, magic, units, bounds}
 use Rattle.fileheader.specs.declared.FileHead.{FileHead}
 use Rattle.fileheader.specs.declared.Opened.the-variants as opened
 use Rattle.rules.specs.Order.{Chain, whole, fault, prepend, onPiece, chain}
@@ -161,24 +161,15 @@ module _ (s : List ℕ) where
 
   pub opened-number : {c : ℕ} → openedAs s ≡ opened.Refused c → (1 ≤ c) × (c ≤ 4)
   unfolding openedAs
-  opened-number e = bounded (all (longEnough s)) (all (magic s)) (all (narrow s)) (all (bounds s)) e
+  opened-number e = bounded (all (longEnough s)) (all (magic s)) (all (units s)) (all (bounds s)) e
 
-  good-bounds : {h : FileHead} (a b d e : Bool)
+  good-long : {h : FileHead} (a b d e : Bool)
       → pick a (pick b (pick d (pick e (opened.Good (fileHead s)) (opened.Refused 4)) (opened.Refused 3)) (opened.Refused 2)) (opened.Refused 1)
       ≡ opened.Good h
-      → (a ≡ true) × (e ≡ true) × (h ≡ fileHead s)
-  good-bounds {h} true true true true f = (refl, refl, cc)
-  good-bounds {h} true true true false f = let z : _≡_ {A = ℕ} 0 1 = cc in absurd (omega arith)
-  good-bounds {h} true true false e f = let z : _≡_ {A = ℕ} 0 1 = cc in absurd (omega arith)
-  good-bounds {h} true false d e f = let z : _≡_ {A = ℕ} 0 1 = cc in absurd (omega arith)
-  good-bounds {h} false b d e f = let z : _≡_ {A = ℕ} 0 1 = cc in absurd (omega arith)
+      → a ≡ true
+  good-long true b d e f = refl
+  good-long {h} false b d e f = let z : _≡_ {A = ℕ} 0 1 = cc in absurd (omega arith)
 
-  pub opened-long : {h : FileHead} → openedAs s ≡ opened.Good h → (100 ≤ length s) × (length s ≤ 1999999999)
+  pub opened-long : {h : FileHead} → openedAs s ≡ opened.Good h → 100 ≤ length s
   unfolding openedAs
-  opened-long e =
-      let f = good-bounds (all (longEnough s)) (all (magic s)) (all (narrow s)) (all (bounds s)) e in
-      (all-yes (longEnough s) (f .0) .0, all-yes (bounds s) (f .1) .1 .1 .0)
-
-  pub opened-is : {h : FileHead} → openedAs s ≡ opened.Good h → h ≡ fileHead s
-  unfolding openedAs
-  opened-is e = good-bounds (all (longEnough s)) (all (magic s)) (all (narrow s)) (all (bounds s)) e .2
+  opened-long e = all-yes (longEnough s) (good-long (all (longEnough s)) (all (magic s)) (all (units s)) (all (bounds s)) e) .0

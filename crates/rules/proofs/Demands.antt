@@ -71,7 +71,7 @@ pub data View (s : List ℕ) (room : ℕ) : Type 0 where
 
 module _ (s : List ℕ) (room : ℕ) where
   cut-of : (h : FileHead) (qs : List ℕ) → openedAs s ≡ opened.Good h → chain s (length s) 100 ≡ whole qs → Partitioned s h qs
-  cut-of h qs e f = (e, whole-partition s (length s) 100 qs f (opened-long s e .0))
+  cut-of h qs e f = (e, whole-partition s (length s) 100 qs f (opened-long s e))
 
   view-turn : (h : FileHead) (qs : List ℕ) (t : Turn) → openedAs s ≡ opened.Good h → chain s (length s) 100 ≡ whole qs → length qs ≤ room
       → ruled s h qs ≡ t → View s room

@@ -1,15 +1,14 @@
 -- The free list rule: the test that the order makes holds exactly where the rule does; and which bytes a gap's segment has.
 use Prim.Native.Nat.{ℕ, _+_, _≤_, _<_}
 use mathlib.Core.Bool.{Bool, true, false, _&&_}
-use mathlib.Core.List.{List, _++_}
-use mathlib.Core.Path.{_≡_, refl}
+use mathlib.Core.List.{List, [], _∷_, _++_}
+use mathlib.Core.Path.{_≡_, refl, ap}
 use native.Mathlib.Omega.{arith}
-use borrow.Author.Tests.{ne-eqb, eqb-false}
+use borrow.Author.Tests.{eq-eqb, ne-eqb, eqb-true, eqb-false}
 use lib.Dec.{eqb}
+use lib.ListN.{length}
 use Rattle.wire.specs.Check.{all, pick}
-use Rattle.wire.specs.Equal.{eqBytes}
 use Rattle.wire.proofs.Checks.{yes-all, all-yes, false-true}
-use Rattle.wire.proofs.Equal.{eq-same, same-eq}
 use Rattle.key.specs.Piece.{pieceAt}
 use Rattle.key.specs.declared.piece.Piece.the-variants.{Gap}
 use Rattle.key.proofs.Pieces.{from-gap}
@@ -17,7 +16,7 @@ use Rattle.keylist.specs.Keys.{freeIn}
 use Rattle.keylist.specs.declared.Data.{Data}
 use Rattle.keylist.specs.declared.Data.the-variants.{Held, Bad}
 use Rattle.fileheader.specs.declared.FileHead.{FileHead}
-use Rattle.rules.specs.Free.{segmentsAt, segmentsFit, gapLast, gaps, final, Free, freeData, freeHolds}
+use Rattle.rules.specs.Free.{segmentsAt, segmentsFit, gapLast, gaps, lastFits, Free, listGaps, freeData, freeHolds}
 use Rattle.rules.specs.Row.{starts}
 
 -- x is one of the bytes from first to last, both included; and one of the n bytes at q
@@ -38,26 +37,58 @@ pub and-both : (a b : Bool) → (a && b) ≡ true → (a ≡ true) × (b ≡ tru
 and-both true b e = (refl, e)
 and-both false b e = false-true e
 
+-- the segments are the gaps and the final one: the test, and the list
+list-gaps : (wide : Bool) (end : ℕ) (ys : List ℕ) (last : ℕ) → lastFits wide end last ≡ true
+    → listGaps wide end ys (ys ++ (end ∷ last ∷ [])) ≡ true
+unfolding listGaps
+list-gaps wide end [] last l = rw (eq-eqb end end refl) l
+list-gaps wide end (y ∷ ys) last l = rw (eq-eqb y y refl) (list-gaps wide end ys last l)
+
+gaps-listed : (wide : Bool) (end : ℕ) (ys xs : List ℕ) → listGaps wide end ys xs ≡ true
+    → (last : ℕ) × (xs ≡ ys ++ (end ∷ last ∷ [])) × (lastFits wide end last ≡ true)
+unfolding listGaps
+gaps-listed wide end [] [] e = false-true e
+gaps-listed wide end [] (a ∷ []) e = false-true e
+gaps-listed wide end [] (a ∷ b ∷ []) e =
+    let f = and-both (eqb a end) (lastFits wide end b) e in
+    (b, ap (λ (x : ℕ). x ∷ b ∷ []) (eqb-true a end (f .0)), f .1)
+gaps-listed wide end [] (a ∷ b ∷ x ∷ xs) e = false-true e
+gaps-listed wide end (y ∷ ys) [] e = false-true e
+gaps-listed wide end (y ∷ ys) (x ∷ xs) e =
+    let f = and-both (eqb x y) (listGaps wide end ys xs) e in
+    let r = gaps-listed wide end ys xs (f .1) in
+    (r .0, (λ i. eqb-true x y (f .0) i ∷ r .1 i), r .2)
+
 module _ (s qs : List ℕ) (h : FileHead) where
   pub free-holds : Free s qs h → freeHolds s qs h ≡ true
   unfolding freeHolds
   free-holds f =
-      rw (ne-eqb (h .seekfree) 100 (f .other), f .place, f .held, yes-all (segmentsFit s (h .nfree) (f .from) (f .end)) (f .fit), f .last, f .equal)
-      (same-eq (gaps s qs ++ final s))
+      rw (
+        ne-eqb (h .seekfree) 100 (f .other),
+        f .place,
+        f .held,
+        yes-all (segmentsFit (h .wide) s (h .nfree) (f .from) (f .end)) (f .fit),
+        f .final,
+        f .equal,
+      )
+      (list-gaps (h .wide) (length s) (gaps s qs) (f .last) (f .beyond))
 
   by-data : (x : Data) → freeIn s (h .seekfree) (h .nbytesfree) ≡ x → (h .seekfree ≡ 100 → ⊥) → starts qs (h .seekfree) ≡ true
-      → freeData s qs (h .nfree) x ≡ true → Free s qs h
+      → freeData (h .wide) s qs (h .nfree) x ≡ true → Free s qs h
   by-data (Held a end) e o p t =
-      let f = and-both (all (segmentsFit s (h .nfree) a end)) (eqBytes (segmentsAt s (h .nfree) a) (gaps s qs ++ final s)) t in
+      let f = and-both (all (segmentsFit (h .wide) s (h .nfree) a end)) (listGaps (h .wide) (length s) (gaps s qs) (segmentsAt s (h .nfree) a)) t in
+      let g = gaps-listed (h .wide) (length s) (gaps s qs) (segmentsAt s (h .nfree) a) (f .1) in
       record {
         other = o;
         place = p;
         from = a;
         end = end;
         held = e;
-        fit = all-yes (segmentsFit s (h .nfree) a end) (f .0);
+        fit = all-yes (segmentsFit (h .wide) s (h .nfree) a end) (f .0);
         segments = gaps s qs;
-        last = eq-same (segmentsAt s (h .nfree) a) (gaps s qs ++ final s) (f .1);
+        last = g .0;
+        final = g .1;
+        beyond = g .2;
         equal = refl;
       }
   by-data Bad e o p t = false-true t
@@ -67,9 +98,9 @@ module _ (s qs : List ℕ) (h : FileHead) where
   free-there e = go (eqb (h .seekfree) 100) refl e
     where
       go : (b : Bool) → eqb (h .seekfree) 100 ≡ b
-          → pick b false (starts qs (h .seekfree) && freeData s qs (h .nfree) (freeIn s (h .seekfree) (h .nbytesfree))) ≡ true
+          → pick b false (starts qs (h .seekfree) && freeData (h .wide) s qs (h .nfree) (freeIn s (h .seekfree) (h .nbytesfree))) ≡ true
           → Free s qs h
       go true f e = false-true e
       go false f e =
-          let x = and-both (starts qs (h .seekfree)) (freeData s qs (h .nfree) (freeIn s (h .seekfree) (h .nbytesfree))) e in
+          let x = and-both (starts qs (h .seekfree)) (freeData (h .wide) s qs (h .nfree) (freeIn s (h .seekfree) (h .nbytesfree))) e in
           by-data (freeIn s (h .seekfree) (h .nbytesfree)) refl (eqb-false (h .seekfree) 100 f) (x .0) (x .1)

@@ -1,13 +1,13 @@
--- The free list and the info record: document 01, "Free list" and "Info".
-use Prim.Native.Nat.{ℕ, zero, suc, _+_, _*_, _-_}
+-- The free list and the info record: document 01, "Free list" and "Info"; document 02, requests 01 and 02.
+use Prim.Native.Nat.{ℕ, zero, suc, _+_, _-_}
 use mathlib.Core.Bool.{Bool, true, false, _&&_, _||_}
 use mathlib.Core.List.{List, [], _∷_, _++_}
 use mathlib.Core.Path.{_≡_}
-use lib.Dec.{eqb}
-use lib.ListN.{length, getD, drop}
-use Rattle.wire.specs.Check.{Check, le, eq, all, All, pick}
-use Rattle.wire.specs.Equal.{eqBytes}
-use Rattle.wire.specs.Layout.{offsetWidth, extent, valuesAt}
+use lib.Dec.{ltb, eqb}
+use lib.ListN.{length, drop}
+use Rattle.wire.specs.Check.{Check, le, eq, all, All, nothing, pick}
+use Rattle.wire.specs.Layout.{offsetWidth, mostVersion, extent, valuesAt}
+use Rattle.wire.specs.Number.{numAt}
 use Rattle.key.specs.Piece.{pieceAt, sizeOf}
 use Rattle.key.specs.declared.piece.Piece.{Piece}
 use Rattle.key.specs.declared.piece.Piece.the-variants.{Record, Gap, Refused}
@@ -26,25 +26,35 @@ isGap (Refused c p) = false
 abbrev pub segmentLayout : ℕ → List ℕ
 segmentLayout w = 2 ∷ w ∷ w ∷ []
 
-abbrev pub segment : List ℕ
-segment = segmentLayout offsetWidth
+-- the layout of the segment at a: its Version, which stands first, tells the width of its ends
+abbrev pub segmentLayoutAt : List ℕ → ℕ → List ℕ
+segmentLayoutAt s a = segmentLayout (offsetWidth (numAt 2 s a))
 
-abbrev pub versionAt : List ℕ → ℕ → ℕ
-versionAt s a = getD (valuesAt segment s a) 0 0
+-- the place after it: 10 bytes, or 18
+abbrev pub segmentEnd : List ℕ → ℕ → ℕ
+segmentEnd s a = a + extent (segmentLayoutAt s a)
 
--- n segments from a on: first and last of each
+-- n segments from a on: first and last of each, and the place after them
 unfoldable pub segmentsAt : List ℕ → ℕ → ℕ → List ℕ
 segmentsAt s zero a = []
-segmentsAt s (suc n) a = drop 1 (valuesAt segment s a) ++ segmentsAt s n (a + extent segment)
+segmentsAt s (suc n) a = drop 1 (valuesAt (segmentLayoutAt s a) s a) ++ segmentsAt s n (segmentEnd s a)
 
--- Version of each is at most 1000
-unfoldable pub versionsFit : List ℕ → ℕ → ℕ → List Check
-versionsFit s zero a = []
-versionsFit s (suc n) a = le (versionAt s a) 1000 ∷ versionsFit s n (a + extent segment)
+unfoldable pub segmentsEnd : List ℕ → ℕ → ℕ → ℕ
+segmentsEnd s zero a = a
+segmentsEnd s (suc n) a = segmentsEnd s n (segmentEnd s a)
 
--- what segments are by themselves: n of them fill the data from a to its end
-abbrev pub segmentsFit : List ℕ → ℕ → ℕ → ℕ → List Check
-segmentsFit s n a end = eq (a + n * extent segment) end ∷ versionsFit s n a
+-- the greatest Version of a segment: in a wide file it may have the wide form
+unfoldable pub segmentVersion : Bool → ℕ
+segmentVersion true = mostVersion
+segmentVersion false = 1000
+
+unfoldable pub versionsFit : Bool → List ℕ → ℕ → ℕ → List Check
+versionsFit wide s zero a = []
+versionsFit wide s (suc n) a = le (numAt 2 s a) (segmentVersion wide) ∷ versionsFit wide s n (segmentEnd s a)
+
+-- what segments are by themselves: n of them fill the data from a to its end, each with a Version that the file may have
+abbrev pub segmentsFit : Bool → List ℕ → ℕ → ℕ → ℕ → List Check
+segmentsFit wide s n a end = eq (segmentsEnd s n a) end ∷ versionsFit wide s n a
 
 -- what a gap's segment has as last: the last byte of the gap (document 02, request 01)
 abbrev pub gapLast : ℕ → ℕ → ℕ
@@ -55,9 +65,10 @@ unfoldable pub gaps : List ℕ → List ℕ → List ℕ
 gaps s [] = []
 gaps s (q ∷ qs) = pick (isGap (pieceAt s q)) (q ∷ gapLast q (sizeOf (pieceAt s q)) ∷ gaps s qs) (gaps s qs)
 
--- the final segment
-abbrev pub final : List ℕ → List ℕ
-final s = length s ∷ 2000000000 ∷ []
+-- what the final segment has as last: 2,000,000,000, in a wide file any number above END
+unfoldable pub lastFits : Bool → ℕ → ℕ → Bool
+lastFits true end last = ltb end last
+lastFits false end last = eqb last 2000000000
 
 pub record Free (s qs : List ℕ) (h : FileHead) : Type 0 where
   -- SeekFree is the start of a plain unpacked record other than the head, of class TFile and size NbytesFree
@@ -67,24 +78,34 @@ pub record Free (s qs : List ℕ) (h : FileHead) : Type 0 where
   pub end : ℕ
   pub held : freeIn s (h .seekfree) (h .nbytesfree) ≡ Held from end
   -- its data is exactly nfree segments (at least 1: the final one is among them)
-  pub fit : All (segmentsFit s (h .nfree) from end)
-  -- the final one is END to 2,000,000,000
+  pub fit : All (segmentsFit (h .wide) s (h .nfree) from end)
+  -- the final one is END and a last that the file may have
   pub segments : List ℕ
-  pub last : segmentsAt s (h .nfree) from ≡ segments ++ final s
+  pub last : ℕ
+  pub final : segmentsAt s (h .nfree) from ≡ segments ++ (length s ∷ last ∷ [])
+  pub beyond : lastFits (h .wide) (length s) last ≡ true
   -- all but the final one equal the gaps, in file order, none left over
   pub equal : segments ≡ gaps s qs
 
--- the same as a test, which the order makes
-abbrev pub freeData : List ℕ → List ℕ → ℕ → Data → Bool
-freeData s qs n (Held a end) = all (segmentsFit s n a end) && eqBytes (segmentsAt s n a) (gaps s qs ++ final s)
-freeData s qs n Bad = false
+-- the same as a test, which the order makes: the segments xs are the gaps ys, then the final one
+unfoldable pub listGaps : Bool → ℕ → List ℕ → List ℕ → Bool
+listGaps wide end (y ∷ ys) [] = false
+listGaps wide end (y ∷ ys) (x ∷ xs) = eqb x y && listGaps wide end ys xs
+listGaps wide end [] (first ∷ last ∷ []) = eqb first end && lastFits wide end last
+listGaps wide end [] [] = false
+listGaps wide end [] (first ∷ []) = false
+listGaps wide end [] (first ∷ last ∷ x ∷ xs) = false
+
+abbrev pub freeData : Bool → List ℕ → List ℕ → ℕ → Data → Bool
+freeData wide s qs n (Held a end) = all (segmentsFit wide s n a end) && listGaps wide (length s) (gaps s qs) (segmentsAt s n a)
+freeData wide s qs n Bad = false
 
 unfoldable pub freeHolds : List ℕ → List ℕ → FileHead → Bool
 freeHolds s qs h =
     pick (eqb (h .seekfree) 100) false
-    (starts qs (h .seekfree) && freeData s qs (h .nfree) (freeIn s (h .seekfree) (h .nbytesfree)))
+    (starts qs (h .seekfree) && freeData (h .wide) s qs (h .nfree) (freeIn s (h .seekfree) (h .nbytesfree)))
 
 -- SeekInfo and NbytesInfo both 0, or the start and size of the info record
 unfoldable pub infoHolds : List ℕ → List ℕ → FileHead → Bool
 infoHolds s qs h =
-    all (eq (h .seekinfo) 0 ∷ eq (h .nbytesinfo) 0 ∷ []) || (starts qs (h .seekinfo) && infoIn s (h .seekinfo) (h .nbytesinfo))
+    all (nothing (h .seekinfo) (h .nbytesinfo)) || (starts qs (h .seekinfo) && infoIn s (h .seekinfo) (h .nbytesinfo))

@@ -6,7 +6,7 @@ mod row;
 ghost use Rattle.streamer.specs.Info.{Informs};
 use crate::info::read_record;
 use crate::row::Rows;
-use table::clear;
+use table::clear32;
 use wire::Answer;
 use wire::finished;
 use wire::refused;
@@ -15,11 +15,11 @@ use wire::refused;
 pub fn read_info(file: &[u8], at: usize, table: &mut [u32]) -> Answer
     ensures { λ r. ⌜ Informs file at table r ⌝ }
 {
-    clear(&mut *table, 0);
+    clear32(&mut *table);
     match read_record(file, at, &mut *table) {
         Rows::Next(_next, rows) => {
             if table.len() / 6 < rows {
-                clear(&mut *table, 0);
+                clear32(&mut *table);
                 return Answer {
                     number: 24,
                     place: 0,
@@ -29,7 +29,7 @@ pub fn read_info(file: &[u8], at: usize, table: &mut [u32]) -> Answer
             finished(rows as u64)
         }
         Rows::Wrong(number, place) => {
-            clear(&mut *table, 0);
+            clear32(&mut *table);
             refused(number as u64, place as u64)
         }
     }

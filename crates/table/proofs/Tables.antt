@@ -16,7 +16,7 @@ pub record Clearing (t u : List ℕ) (from i : ℕ) : Type 0 where
   pub within : i ≤ length t
   pub table : u ≡ patch t from (replicate (i - from) 0)
 
-pub clear-began : (t : List ℕ) (from : ℕ) → from < length t → Clearing t t from from
+pub clear-began : (t : List ℕ) (from : ℕ) → from ≤ length t → Clearing t t from from
 clear-began t from l = record { begun = omega arith; within = omega arith; table = sym (rw sub-self (patch-nil t from)) }
 
 -- behind the table's end there is nothing to clear

@@ -1,5 +1,6 @@
 -- Laws of layouts: reading and writing undo each other, once for every list of widths.
 use Prim.Native.Nat.{ℕ, zero, suc, _+_, _≤_}
+use mathlib.Core.Bool.{Bool, true, false}
 use mathlib.Core.List.{List, [], _∷_, _++_, append-assoc}
 use mathlib.Core.Path.{_≡_, refl, sym, ap, _∙_}
 use native.Mathlib.Nat.{zero-add}
@@ -7,8 +8,14 @@ use native.Mathlib.Omega.{arith}
 use lib.ListN.{length, take, drop, length-append, length-drop}
 use lib.Seq.{getD-drop, drop-drop, drop-at, take-add}
 use Rattle.wire.specs.Number.{beValue, Bytes, numAt, beBytes}
-use Rattle.wire.specs.Layout.{extent, valuesAt, valueBytes, Fit}
+use Rattle.wire.specs.Layout.{widthOf, extent, valuesAt, valueBytes, Fit}
 use Rattle.wire.proofs.Numbers.{num-in, length-bytes, value-bytes, bytes-value, value-below}
+
+-- an offset has four bytes at least, and eight at most
+pub width-within : (b : Bool) → (4 ≤ widthOf b) × (widthOf b ≤ 8)
+unfolding widthOf
+width-within true = omega arith
+width-within false = omega arith
 
 pub length-values : (ws vs : List ℕ) → length (valueBytes ws vs) ≡ extent ws
 length-values [] vs = refl

@@ -3,14 +3,14 @@ use Prim.Native.Nat.{ℕ, zero, suc, _+_, _*_, _/_, _%_, _^_, _<_, _≤_}
 use mathlib.Core.List.{List, _∷_, _++_}
 use mathlib.Core.Logic.{⊎-elim}
 use mathlib.Core.Path.{_≡_, refl, _∙_}
-use native.Mathlib.Nat.{add-zero, zero-add, div-add-mod', div-lt-iff-lt-mul, pow-suc}
+use native.Mathlib.Nat.{add-zero, add-assoc, zero-add, div-add-mod', div-lt-iff-lt-mul, pow-suc}
 use native.Mathlib.Numerals.{add-one}
 use native.Mathlib.Omega.{arith}
 use borrow.Author.Tests.{le-leb, lt-leb}
 use lib.ListN.{length, take, drop, getD, length-append, length-drop}
 use lib.Seq.{sets, sets-eq, getD-append-add, getD-drop, take-suc}
 use mathlib.Core.List.{append-assoc}
-use Rattle.wire.specs.Number.{beValue, Bytes, numAt, beBytes, lesser}
+use Rattle.wire.specs.Number.{beValue, Bytes, numAt, Word, beBytes, lesser}
 use Rattle.wire.specs.Patch.{patch}
 use Rattle.wire.proofs.Checks.{below-or}
 
@@ -28,7 +28,11 @@ unfolding beBytes
 length-bytes zero v = refl
 length-bytes (suc w) v = rw (length-append, length-bytes w (v / 256)) (add-one w)
 
--- two and four bytes, as the code adds them up
+-- one, two and four bytes, as the code adds them up
+pub value1 : (s : List ℕ) (p : ℕ) → beValue 1 s p ≡ getD s p 0
+unfolding beValue
+value1 s p = rw add-zero (omega arith)
+
 pub value2 : (s : List ℕ) (p : ℕ) → beValue 2 s p ≡ getD s p 0 * 256 + getD s (p + 1) 0
 unfolding beValue
 value2 s p = rw add-zero (omega arith)
@@ -37,6 +41,14 @@ pub value4 : (s : List ℕ) (p : ℕ)
     → beValue 4 s p ≡ getD s p 0 * 16777216 + getD s (p + 1) 0 * 65536 + getD s (p + 2) 0 * 256 + getD s (p + 3) 0
 unfolding beValue
 value4 s p = rw add-zero (omega arith)
+
+-- eight bytes are two times four
+value8 : (s : List ℕ) (p : ℕ) → beValue 8 s p ≡ beValue 4 s p * 4294967296 + beValue 4 s (p + 4)
+unfolding beValue
+value8 s p = rw (add-zero p, add-zero (p + 4), add-assoc p 4 1, add-assoc p 4 2, add-assoc p 4 3) (omega arith)
+
+pub two-words : (s : List ℕ) (p : ℕ) {a b : ℕ} → p + 8 ≤ length s → Word s p a → Word s (p + 4) b → a * 4294967296 + b ≡ numAt 8 s p
+two-words s p l a b = omega (arith, num-in 8 s p l, value8 s p, value4 s p, value4 s (p + 4))
 
 -- bytes stored one after the other at the front
 pub stored : (x b : List ℕ) → length x ≤ length b → sets b 0 x ≡ patch b 0 x

@@ -33,6 +33,10 @@ abbrev pub All : List Check → Type 0
 All [] = Unit
 All (c ∷ cs) = Holds c × All cs
 
+-- both are 0: a place and a size that name no record
+abbrev pub nothing : ℕ → ℕ → List Check
+nothing seek nbytes = eq seek 0 ∷ eq nbytes 0 ∷ []
+
 -- a where the test holds, else b
 abbrev pub pick : {A : Type 0} → Bool → A → A → A
 pick true a b = a

@@ -1,12 +1,27 @@
 -- Formats of big-endian numbers, one after the other: a layout is the list of their widths in bytes, and every place follows from
 -- the widths.
 use Prim.Native.Nat.{ℕ, _+_, _^_, _<_}
+use mathlib.Core.Bool.{Bool, true, false}
 use mathlib.Core.List.{List, [], _∷_, _++_}
+use lib.Dec.{ltb}
+use Rattle.wire.specs.Check.{Check, le}
 use Rattle.wire.specs.Number.{numAt, beBytes}
 
--- the width of an offset in a file: document 01, "only four-byte offsets are taken at first"
-abbrev pub offsetWidth : ℕ
-offsetWidth = 4
+-- the bytes of an offset: eight in the wide form, else four (document 02, request 02)
+unfoldable pub widthOf : Bool → ℕ
+widthOf true = 8
+widthOf false = 4
+
+-- the width of the offsets of a key, a directory header or a segment, by its Version: above 1000 it has the wide form
+abbrev pub offsetWidth : ℕ → ℕ
+offsetWidth version = widthOf (ltb 1000 version)
+
+-- the greatest Version: of a key and of a directory header, and of a segment in a wide file
+abbrev pub mostVersion : ℕ
+mostVersion = 2000
+
+abbrev pub versionFits : ℕ → Check
+versionFits version = le version mostVersion
 
 -- the bytes that a layout takes
 abbrev pub extent : List ℕ → ℕ

@@ -1,7 +1,8 @@
 // Big-endian numbers, read at any place, and signed numbers of 16 bits.
 ghost use mathlib.Core.Path.{_≡_};
-ghost use Prim.Native.Nat.{_<_, _≤_, _+_};
+ghost use Prim.Native.Nat.{_<_, _≤_, _+_, _^_};
 ghost use lib.ListN.{length};
+ghost use Rattle.wire.specs.Layout.{widthOf};
 ghost use Rattle.wire.specs.Lent.{before};
 ghost use Rattle.wire.specs.Number.{numAt, Word, lesser, signedOf, bits16};
 
@@ -9,6 +10,17 @@ fn wide(b: u8) -> u32
     ensures { λ r. ⌜ (r ≡ b) × (r ≤ 255) ⌝ }
 {
     b as u32
+}
+
+// The number of 1 byte at a place; 0 unless it is there.
+pub fn be8(s: &[u8], at: usize) -> u32
+    ensures { λ r. ⌜ r ≡ numAt 1 (before s) at ⌝ }
+{
+    if s.len() <= at {
+        return 0;
+    }
+    let byte = s[at];
+    wide(byte)
 }
 
 // The number of 2 bytes at a place; 0 unless both are there.
@@ -43,6 +55,49 @@ pub fn be32(s: &[u8], at: usize) -> u32
         return 0;
     }
     word(s, at)
+}
+
+// The number of 8 bytes at a place; 0 unless all are there.
+pub fn be64(s: &[u8], at: usize) -> u64
+    ensures { λ r. ⌜ r ≡ numAt 8 (before s) at ⌝ }
+{
+    if s.len() < 8 {
+        return 0;
+    }
+    if s.len() - 8 < at {
+        return 0;
+    }
+    word(s, at) as u64 * 4294967296 + word(s, at + 4) as u64
+}
+
+// The bytes of an offset, in the wide form or not.
+pub fn width(wide: bool) -> usize
+    ensures { λ r. ⌜ (r ≡ widthOf wide) × (4 ≤ r) × (r ≤ 8) ⌝ }
+{
+    if wide {
+        return 8;
+    }
+    4
+}
+
+// The greatest offset.
+pub fn greatest(wide: bool) -> u64
+    ensures { λ r. ⌜ r + 1 ≡ 256 ^ widthOf wide ⌝ }
+{
+    if wide {
+        return 18446744073709551615;
+    }
+    4294967295
+}
+
+// The offset at a place; 0 unless all its bytes are there.
+pub fn be_offset(s: &[u8], at: usize, wide: bool) -> u64
+    ensures { λ r. ⌜ r ≡ numAt (widthOf wide) (before s) at ⌝ }
+{
+    if wide {
+        return be64(s, at);
+    }
+    be32(s, at) as u64
 }
 
 // The lesser of two numbers.

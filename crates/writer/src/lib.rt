@@ -1,25 +1,24 @@
 // The key writer. The public function takes any input and has no precondition.
 ghost use mathlib.Core.Path.{_≡_};
-ghost use mathlib.Core.List.{_++_};
 ghost use Prim.Native.Nat.{_+_, _≤_};
 ghost use lib.ListN.{length};
 ghost use Rattle.wire.specs.Check.{All};
-ghost use Rattle.wire.specs.Layout.{offsetWidth, valueBytes};
 ghost use Rattle.wire.specs.Lent.{before, after};
 ghost use Rattle.wire.specs.Number.{bitsOf};
 ghost use Rattle.wire.specs.Patch.{patch};
 ghost use Rattle.wire.specs.Text.{textSize};
-ghost use Rattle.key.specs.Header.{keyLayout};
-ghost use Rattle.key.specs.Writer.{nameBytes, numbersOf, namesShort, sumBytes, Writes};
+ghost use Rattle.key.specs.Writer.{nameBytes, headerBytes, namesShort, sumBytes, Writes};
 use crate::store::put_text;
 use crate::store::put_values;
-use key::header::FIXED;
 use key::header::Fields;
+use key::header::fixed_part;
 use key::header::is_formed;
 use wire::Answer;
 use wire::finished;
 use wire::number::Bits;
 use wire::number::bits_of;
+use wire::number::greatest;
+use wire::number::width;
 use wire::refused;
 use wire::text::LONGEST;
 
@@ -50,15 +49,15 @@ fn put_header(
     title: &[u8],
 )
     requires { ⌜ All (namesShort (now class) (now name) (now title)) × (cycle ≡ bitsOf 2 (f .cycle))
-        × (sumBytes (now class) (now name) (now title) ≤ length (now part)) ⌝ }
-    ensures { λ _. ⌜ after part ≡ patch (before part) 0
-        (valueBytes (keyLayout offsetWidth) (numbersOf f keylen)
-        ++ nameBytes (before class) (before name) (before title)) ⌝ }
+        × (keylen ≡ sumBytes (f .version) (now class) (now name) (now title)) × (keylen ≤ length (now part)) ⌝ }
+    ensures { λ _. ⌜ after part ≡ patch (before part) 0 (headerBytes f (before class) (before name) (before title)) ⌝ }
 {
-    let widths: [usize; 8] = [4, 2, 4, 4, 2, 2, 4, 4];
+    let version = f.version;
+    let w = width(1000 < version);
+    let widths: [usize; 8] = [4, 2, 4, 4, 2, 2, w, w];
     let values: [u64; 8] = [
         f.nbytes as u64,
-        f.version as u64,
+        version as u64,
         f.objlen as u64,
         f.datime as u64,
         keylen as u64,
@@ -67,7 +66,8 @@ fn put_header(
         f.seekpdir,
     ];
     put_values(&mut *part, &widths, &values);
-    put_names(&mut part[FIXED..], class, name, title);
+    let fixed = fixed_part(version);
+    put_names(&mut part[fixed..], class, name, title);
 }
 
 // Writes a header at the place SeekKey of a buffer. Refused: 15 for a string over 254 bytes, 16 for a header
@@ -84,23 +84,28 @@ pub fn write_key(f: Fields, class: &[u8], name: &[u8], title: &[u8], buf: &mut [
     if LONGEST < title.len() {
         return refused(15, 0);
     }
-    let sum = FIXED + (1 + class.len()) + (1 + name.len()) + (1 + title.len());
+    let version = f.version;
+    let sum = fixed_part(version) + (1 + class.len()) + (1 + name.len()) + (1 + title.len());
     let Bits::Held(cycle) = bits_of(f.cycle) else {
         return refused(16, 0);
     };
     let nbytes = f.nbytes;
     let seekkey = f.seekkey;
-    if 4294967295 < seekkey {
+    let most = greatest(1000 < version);
+    if most < seekkey {
         return refused(16, 0);
     }
-    if 4294967295 < f.seekpdir {
+    if most < f.seekpdir {
         return refused(16, 0);
     }
-    if !is_formed(nbytes, f.version, f.objlen, sum as u32, sum) {
+    if !is_formed(nbytes, version, f.objlen, sum as u32, sum) {
         return refused(16, 0);
+    }
+    if buf.len() < nbytes as usize {
+        return refused(17, 0);
     }
     let at = seekkey as usize;
-    if buf.len() < at + nbytes as usize {
+    if buf.len() - (nbytes as usize) < at {
         return refused(17, 0);
     }
     put_header(&mut buf[at..], f, sum, cycle, class, name, title);

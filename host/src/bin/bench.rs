@@ -14,6 +14,8 @@ const TURNS: usize = 30;
 const FEW_TURNS: usize = 8;
 /// Runs of a program in one turn: after the first it finds the file in the cache as the others do.
 const RUNS: usize = 3;
+/// The shapes with bars: files as they would be written, with narrow offsets and with wide ones.
+const WITH_BARS: [&str; 2] = ["tree", "wide"];
 /// Of the library's time to the second program's, and of the time for 200,000 pieces to that for 20,000.
 const MOST_RATIO: f64 = 1.5;
 const MOST_GROWTH: f64 = 15.0;
@@ -22,7 +24,7 @@ fn main() {
     let names: Vec<String> = env::args().skip(1).collect();
     let is_chosen = |shape: &&Shape| names.is_empty() || names.iter().any(|name| name == shape.name);
     for shape in shapes::ALL.iter().filter(is_chosen) {
-        let has_bars = shape.name == shapes::ALL[0].name;
+        let has_bars = WITH_BARS.contains(&shape.name);
         let (lines, walks) = measure(shape, if has_bars { TURNS } else { FEW_TURNS });
         print(&format!("audit, {}", shape.name), "pieces", &lines);
         if has_bars {
@@ -51,7 +53,7 @@ fn print_walks(walks: &[Duration; 3]) {
 /// A file, and the tables to audit it into: start, part and owner.
 struct Case {
     file: Vec<u8>,
-    tables: [Vec<u32>; 3],
+    tables: [Vec<u64>; 3],
 }
 
 impl Case {
@@ -66,7 +68,7 @@ impl Case {
     /// All three give the same rows.
     fn check(&mut self) {
         let (_, rows) = audit::audit(&self.file, self.pieces());
-        let column = |field: fn(&Row) -> u32| rows.iter().map(field).collect::<Vec<u32>>();
+        let column = |field: fn(&Row) -> u64| rows.iter().map(field).collect::<Vec<u64>>();
         let expected = [column(|row| row.start), column(|row| row.part), column(|row| row.owner)];
         for program in [Program::Library, Program::Fast] {
             self.clear();

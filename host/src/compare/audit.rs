@@ -8,7 +8,7 @@ use crate::model::audit::{self, Row};
 use crate::model::rules;
 
 /// An audit of the file at hand into three tables.
-type Run<'a> = &'a dyn Fn([&mut [u32]; 3]) -> Answer;
+type Run<'a> = &'a dyn Fn([&mut [u64]; 3]) -> Answer;
 
 /// Audits with tables of these lengths. The answer, and the rows of a pass.
 pub fn audit(tally: &mut Tally, file: &[u8], lengths: [usize; 3]) -> (Answer, Vec<Row>) {
@@ -16,13 +16,13 @@ pub fn audit(tally: &mut Tally, file: &[u8], lengths: [usize; 3]) -> (Answer, Ve
     let (answer, rows) = audit::audit(file, start_len.min(part_len).min(owner_len));
     let copy = small_copy(file);
     let garbage = tally.garbage();
-    let fill = [garbage as u32, 100, u32::MAX, 7][tally.inputs as usize % 4];
+    let fill = [garbage, 100, u64::MAX, 7][tally.inputs as usize % 4];
     let library =
-        |tables: [&mut [u32]; 3]| answer_of(garbage, |place, count| ffi::audit::audit(file, tables, place, count));
-    let fast = |tables: [&mut [u32]; 3]| fast::audit::audit(file, tables);
+        |tables: [&mut [u64]; 3]| answer_of(garbage, |place, count| ffi::audit::audit(file, tables, place, count));
+    let fast = |tables: [&mut [u64]; 3]| fast::audit::audit(file, tables);
     let programs: [(&str, Run); 2] = [("library", &library), ("fast program", &fast)];
     for (program, run) in programs {
-        let mut tables = lengths.map(|len| Table::new(len, fill, garbage as u32));
+        let mut tables = lengths.map(|len| Table::new(len, fill, garbage));
         let got = run(tables.each_mut().map(Table::lent));
         expect(program, file, (got, tables), (answer, &rows));
     }
@@ -32,7 +32,7 @@ pub fn audit(tally: &mut Tally, file: &[u8], lengths: [usize; 3]) -> (Answer, Ve
 }
 
 /// Fails unless a program answered and wrote what the model has.
-fn expect(program: &str, file: &[u8], got: (Answer, [Table; 3]), model: (Answer, &[Row])) {
+fn expect(program: &str, file: &[u8], got: (Answer, [Table<u64>; 3]), model: (Answer, &[Row])) {
     let (got, mut tables) = got;
     let (answer, rows) = model;
     let [start, part, owner] = &mut tables;

@@ -6,25 +6,25 @@ use std::hint::black_box;
 const GUARD: usize = 4;
 
 /// A table that is lent, full of what an earlier call may have left, between two guards.
-pub struct Table {
-    numbers: Vec<u32>,
-    guard: u32,
+pub struct Table<T> {
+    numbers: Vec<T>,
+    guard: T,
 }
 
-impl Table {
-    pub fn new(len: usize, fill: u32, guard: u32) -> Self {
+impl<T: Copy + Default + PartialEq> Table<T> {
+    pub fn new(len: usize, fill: T, guard: T) -> Self {
         let mut numbers = vec![guard; len + 2 * GUARD];
         numbers[GUARD..GUARD + len].fill(fill);
         Table { numbers, guard }
     }
 
-    pub fn lent(&mut self) -> &mut [u32] {
+    pub fn lent(&mut self) -> &mut [T] {
         let end = self.numbers.len() - GUARD;
         &mut self.numbers[GUARD..end]
     }
 
     /// Whether it holds `rows`, then zeros, and the guards stand.
-    pub fn holds(&mut self, rows: impl ExactSizeIterator<Item = u32>) -> bool {
+    pub fn holds(&mut self, rows: impl ExactSizeIterator<Item = T>) -> bool {
         let len = rows.len();
         let guard = [self.guard; GUARD];
         let numbers = &black_box(&mut self.numbers)[..];
@@ -33,7 +33,7 @@ impl Table {
         before == guard
             && after == guard
             && lent[..len].iter().copied().eq(rows)
-            && lent[len..].iter().all(|&number| number == 0)
+            && lent[len..].iter().all(|&number| number == T::default())
     }
 }
 

@@ -2,12 +2,17 @@
 
 use crate::ffi::number;
 
-/// The bytes of a key header before its strings.
+/// The bytes of a key header before its strings, with four-byte offsets.
 pub const FIXED: usize = 26;
 /// The least KeyLen: three empty strings.
 pub const LEAST_KEY: usize = FIXED + 3;
+/// The greatest version of a key, a directory header or a free segment, and the greatest with four-byte offsets.
+pub const MOST_VERSION: u16 = 2000;
+pub const MOST_NARROW: u16 = 1000;
 const LEAST_PIECE: usize = 4;
-const MOST_VERSION: u16 = 1000;
+/// The bytes of an offset.
+pub const NARROW: usize = 4;
+pub const WIDE: usize = 8;
 const MOST_BYTES: u32 = i32::MAX as u32;
 
 #[inline(always)]
@@ -20,9 +25,30 @@ pub fn be32<const N: usize>(bytes: &[u8; N], at: usize) -> u32 {
     u32::from_be_bytes([bytes[at], bytes[at + 1], bytes[at + 2], bytes[at + 3]])
 }
 
+/// The bytes of an offset in a key, a directory header or a free segment of this version.
+#[inline(always)]
+pub fn width(version: u16) -> usize {
+    if version > MOST_NARROW {
+        WIDE
+    } else {
+        NARROW
+    }
+}
+
+/// The offset of `width` bytes at `at`.
+#[inline(always)]
+pub fn offset(bytes: &[u8], at: usize, width: usize) -> Option<u64> {
+    let bytes = bytes.get(at..)?;
+    if width == WIDE {
+        bytes.first_chunk().map(|bytes| u64::from_be_bytes(*bytes))
+    } else {
+        bytes.first_chunk().map(|bytes| u32::from_be_bytes(*bytes).into())
+    }
+}
+
 /// A well-formed key header.
 pub struct Key<'a> {
-    pub seek_key: u32,
+    pub seek_key: u64,
     pub keylen: usize,
     pub plain: bool,
     pub unpacked: bool,
@@ -32,16 +58,19 @@ pub struct Key<'a> {
 
 impl<'a> Key<'a> {
     /// The header that these bytes begin with, read within them.
-    #[inline]
+    #[inline(always)]
     pub fn read(bytes: &'a [u8]) -> Option<Self> {
-        let (fixed, strings) = bytes.split_first_chunk::<FIXED>()?;
+        let (fixed, rest) = bytes.split_first_chunk::<FIXED>()?;
+        let version = be16(fixed, 4);
+        let width = width(version);
+        let strings = if width == WIDE { rest.get(2 * (WIDE - NARROW)..)? } else { rest };
         let (class, rest) = string(strings)?;
         let (name, rest) = string(rest)?;
         let (_title, rest) = string(rest)?;
         let sum = bytes.len() - rest.len();
         let [nbytes, objlen] = [be32(fixed, 0), be32(fixed, 6)];
         let keylen = be16(fixed, 14);
-        let well_formed = (1..=MOST_VERSION).contains(&be16(fixed, 4))
+        let well_formed = (1..=MOST_VERSION).contains(&version)
             && objlen <= MOST_BYTES
             && nbytes <= MOST_BYTES
             && sum <= usize::from(keylen)
@@ -50,7 +79,7 @@ impl<'a> Key<'a> {
             return None;
         }
         Some(Key {
-            seek_key: be32(fixed, 18),
+            seek_key: offset(fixed, 18, width)?,
             keylen: keylen.into(),
             plain: sum == usize::from(keylen),
             unpacked: objlen == nbytes - u32::from(keylen),
@@ -76,7 +105,7 @@ pub enum Piece<'a> {
 }
 
 /// The piece at `at`, or the number of the refusal.
-#[inline]
+#[inline(always)]
 pub fn piece(file: &[u8], at: usize) -> Result<Piece<'_>, u64> {
     let rest = file.get(at..).unwrap_or_default();
     let n = i32::from_be_bytes(*rest.first_chunk().ok_or(number::CHAIN)?);
@@ -89,7 +118,7 @@ pub fn piece(file: &[u8], at: usize) -> Result<Piece<'_>, u64> {
     }
     let record = &rest[..size];
     match Key::read(record) {
-        Some(key) if key.seek_key as usize == at => Ok(Piece::Record(record, key)),
+        Some(key) if key.seek_key == at as u64 => Ok(Piece::Record(record, key)),
         _ => Err(number::KEY),
     }
 }

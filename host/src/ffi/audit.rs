@@ -7,11 +7,11 @@ mod c {
         pub fn rootmap_audit(
             file: *const u8,
             file_len: usize,
-            start: *mut u32,
+            start: *mut u64,
             start_len: usize,
-            part: *mut u32,
+            part: *mut u64,
             part_len: usize,
-            owner: *mut u32,
+            owner: *mut u64,
             owner_len: usize,
             place: *mut u64,
             count: *mut u64,
@@ -20,7 +20,7 @@ mod c {
 }
 
 /// The tables are start, part and owner.
-pub fn audit(file: &[u8], tables: [&mut [u32]; 3], place: &mut u64, count: &mut u64) -> u64 {
+pub fn audit(file: &[u8], tables: [&mut [u64]; 3], place: &mut u64, count: &mut u64) -> u64 {
     let [start, part, owner] = tables;
     // SAFETY: each pointer goes with its slice's length; what is lent as `&mut` overlaps nothing.
     unsafe {
@@ -40,7 +40,7 @@ pub fn audit(file: &[u8], tables: [&mut [u32]; 3], place: &mut u64, count: &mut 
 }
 
 /// The same, and all that it answers as one value.
-pub fn answer(file: &[u8], tables: [&mut [u32]; 3]) -> Answer {
+pub fn answer(file: &[u8], tables: [&mut [u64]; 3]) -> Answer {
     let (mut place, mut count) = (0, 0);
     let number = audit(file, tables, &mut place, &mut count);
     Answer { number, place, count }

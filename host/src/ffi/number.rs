@@ -3,6 +3,7 @@
 pub const SUCCESS: u64 = 0;
 pub const SHORT: u64 = 1;
 pub const MAGIC: u64 = 2;
+/// Version and Units disagree.
 pub const WIDE: u64 = 3;
 pub const BOUNDS: u64 = 4;
 pub const CHAIN: u64 = 5;

@@ -1,8 +1,10 @@
 //! Whole files: a plan of pieces, and the bytes that it gives. A random plan gives a valid file.
 
+use super::fields::{low_bytes, DirectoryAt, Field, HeaderAt, KeyAt, SegmentAt};
 use super::{string_length, RawKey, Rng};
 use crate::ffi::part;
 use crate::model::audit::{Row, BEGIN, FREE_END};
+use crate::model::width;
 
 /// What a piece is for. A directory is named by its index in the plan; the head is 0.
 #[derive(Clone, Copy, Debug, PartialEq, Eq)]
@@ -30,9 +32,13 @@ pub struct Item {
     pub packed: bool,
     /// The head's name and title, each with its length byte.
     pub names: Vec<u8>,
-    /// Version of a directory header or of each free segment, and a directory's dates.
+    /// Version and dates of a directory header.
     pub version: u16,
     pub dates: [u32; 2],
+    /// Versions of free segments, in turn and again from the first.
+    pub segments: Vec<u16>,
+    /// How far behind END the final free segment ends; none is the end in a file with narrow offsets.
+    pub beyond: Option<u64>,
     /// The keys list of a directory.
     pub list: Option<usize>,
     /// What a keys list copies.
@@ -45,19 +51,45 @@ pub struct Item {
     pub cut: usize,
 }
 
+/// Versions of keys and of free segments, with narrow offsets and with wide ones.
+const KEY_VERSIONS: [u16; 8] = [1, 4, 999, 1000, 1001, 1004, 1999, 2000];
+const NARROW_SEGMENTS: [u16; 4] = [0, 1, 5, 1000];
+const WIDE_SEGMENTS: [u16; 3] = [1001, 1005, 2000];
+
+/// Versions of a file header, a key, a directory header and a free segment whose offsets have one width.
+pub struct Versions {
+    pub file: u32,
+    pub key: u16,
+    pub directory: u16,
+    pub segment: u16,
+}
+
+impl Versions {
+    const NARROW: Versions = Versions { file: 62400, key: 4, directory: 5, segment: 1 };
+    const WIDE: Versions = Versions { file: 1_062_400, key: 1004, directory: 1005, segment: 1001 };
+
+    pub fn of(is_wide: bool) -> &'static Self {
+        if is_wide {
+            &Self::WIDE
+        } else {
+            &Self::NARROW
+        }
+    }
+}
+
 impl Item {
     pub fn new(rng: &mut Rng, role: Role, class: &str, name: &str) -> Self {
         let title = string_length(rng) / 8;
         let strings = [class.as_bytes().to_vec(), name.as_bytes().to_vec(), rng.bytes(title)];
         let key = RawKey {
             nbytes: 0,
-            version: rng.pick(&[1, 2, 4, 999, 1000]),
+            version: rng.pick(&KEY_VERSIONS),
             objlen: 0,
             datime: rng.u32(),
             keylen: 0,
             cycle: rng.pick(&[1, 1, 1, 2, 3, 0xffff]),
             seek_key: 0,
-            seek_pdir: rng.pick(&[0, 100, 101, u32::MAX]),
+            seek_pdir: rng.pick(&[0, 100, 101, u32::MAX.into()]),
             strings,
         };
         Item {
@@ -67,8 +99,10 @@ impl Item {
             more: 0,
             packed: false,
             names: Vec::new(),
-            version: rng.pick(&[0, 1, 5, 0x0101, 1000]),
+            version: rng.pick(&[0, 5, 0x0101, 1000, 1001, 1005, 2000]),
             dates: [rng.u32(), rng.u32()],
+            segments: vec![rng.pick(&NARROW_SEGMENTS)],
+            beyond: None,
             list: None,
             copies: Vec::new(),
             data: Vec::new(),
@@ -80,6 +114,11 @@ impl Item {
     /// Its KeyLen.
     pub fn keylen(&self) -> usize {
         self.key.sum() + self.more
+    }
+
+    /// The version of free segment `nth`.
+    fn segment(&self, nth: usize) -> u16 {
+        self.segments[nth % self.segments.len()]
     }
 }
 
@@ -105,17 +144,38 @@ pub struct Site {
     pub start: usize,
     pub size: usize,
     pub keylen: usize,
+    /// The bytes of an offset in its key, and in its directory header.
+    pub width: usize,
+    pub directory_width: usize,
     /// Its directory header.
     pub directory: usize,
     /// NKeys and the copies of a keys list.
     pub nkeys: usize,
     pub copies: Vec<usize>,
+    /// The segments of a free list.
+    pub segments: Vec<SegmentAt>,
+}
+
+impl Site {
+    pub fn key(&self) -> KeyAt {
+        KeyAt { at: self.start, width: self.width }
+    }
+
+    pub fn directory(&self) -> DirectoryAt {
+        DirectoryAt { at: self.directory, width: self.directory_width }
+    }
+
+    /// NKeys.
+    pub fn nkeys(&self) -> Field {
+        Field { at: self.nkeys, width: 4 }
+    }
 }
 
 /// A file, and where each piece of its plan stands.
 #[derive(Clone, Debug)]
 pub struct Built {
     pub bytes: Vec<u8>,
+    pub header: HeaderAt,
     pub sites: Vec<Site>,
 }
 
@@ -165,10 +225,10 @@ impl Plan {
                 Role::Dir { parent } => (part::DIR, Some(parent)),
                 Role::Loose => (part::UNLISTED, None),
             };
-            let start = built.sites[index].start as u32;
+            let start = built.sites[index].start as u64;
             match owner {
                 None => Row { start, part, owner: 0 },
-                Some(owner) if self.in_reach(owner) => Row { start, part, owner: built.sites[owner].start as u32 },
+                Some(owner) if self.in_reach(owner) => Row { start, part, owner: built.sites[owner].start as u64 },
                 Some(_) => Row { start, part: part::UNLISTED, owner: 0 },
             }
         };
@@ -183,7 +243,7 @@ impl Plan {
             bytes.extend(laid);
         }
         bytes.resize(end(&sites), 0);
-        Built { bytes, sites }
+        Built { bytes, header: self.header_at(), sites }
     }
 
     /// Where each piece stands.
@@ -219,24 +279,82 @@ impl Plan {
             copies.push(at);
             at += self.items[copy].key.sum();
         }
-        Site { start, size, keylen, directory, nkeys, copies }
+        Site {
+            start,
+            size,
+            keylen,
+            width: item.key.width(),
+            directory_width: width::of(item.version.into()),
+            directory,
+            nkeys,
+            copies,
+            segments: self.segments_at(item, start + keylen),
+        }
+    }
+
+    /// Where the segments of a free list stand, from a place on. One follows those of the gaps.
+    fn segments_at(&self, item: &Item, start: usize) -> Vec<SegmentAt> {
+        let mut at = start;
+        let mut segment = |nth: usize| {
+            let segment = SegmentAt { at, width: width::of(item.segment(nth).into()) };
+            at += segment.size();
+            segment
+        };
+        let count = if item.role == Role::Free { self.gaps().count() + 1 } else { 0 };
+        (0..count).map(&mut segment).collect()
+    }
+
+    /// The gaps in file order.
+    fn gaps(&self) -> impl Iterator<Item = usize> + '_ {
+        self.order.iter().copied().filter(|&index| self.items[index].role == Role::Gap)
+    }
+
+    /// The same with offsets of one width throughout.
+    pub fn of_width(mut self, is_wide: bool) -> Self {
+        let versions = Versions::of(is_wide);
+        self.version = versions.file;
+        for item in &mut self.items {
+            (item.key.version, item.version) = (versions.key, versions.directory);
+            item.segments = vec![versions.segment];
+            item.beyond = item.beyond.filter(|_| is_wide);
+        }
+        self
+    }
+
+    pub fn is_wide(&self) -> bool {
+        self.version >= width::LEAST_WIDE_FILE
+    }
+
+    pub fn header_at(&self) -> HeaderAt {
+        HeaderAt { width: width::of_file(self.version) }
     }
 
     /// The first 100 bytes.
     fn header(&self, sites: &[Site]) -> Vec<u8> {
-        let [free, info] = [Role::Free, Role::Info].map(|role| self.find(role).map(|index| &sites[index]));
-        let pair = |site: Option<&Site>| site.map_or([0; 2], |site| [site.start, site.size].map(|n| n as u32));
-        let [seek_free, nbytes_free] = pair(free);
-        let [seek_info, nbytes_info] = pair(info);
-        let nfree = free.map_or(0, |site| (site.size - site.keylen) / 10);
+        let [free, info] = [Role::Free, Role::Info].map(|role| self.find(role));
+        let pair = |index: Option<usize>| index.map_or([0; 2], |index| [sites[index].start, sites[index].size]);
+        let ([seek_free, nbytes_free], [seek_info, nbytes_info]) = (pair(free), pair(info));
+        let nfree = free.map_or(0, |free| segments_in(&self.piece(free, sites)[self.items[free].keylen()..]));
         let named = self.items[0].keylen() + self.items[0].names.len();
+        let at = self.header_at();
         let mut bytes = b"root".to_vec();
-        let end = end(sites) as u32;
-        let numbers = [self.version, BEGIN as u32, end, seek_free, nbytes_free, nfree as u32, named as u32];
-        bytes.extend(numbers.iter().flat_map(|number| number.to_be_bytes()));
-        bytes.push(4);
-        bytes.extend([self.compress, seek_info, nbytes_info].iter().flat_map(|number| number.to_be_bytes()));
+        bytes.resize(at.rest(), 0);
         bytes.resize(BEGIN, self.rest);
+        for (field, number) in [
+            (HeaderAt::VERSION, self.version as usize),
+            (HeaderAt::BEGIN, BEGIN),
+            (at.end(), end(sites)),
+            (at.seek_free(), seek_free),
+            (at.nbytes_free(), nbytes_free),
+            (at.nfree(), nfree),
+            (at.nbytes_name(), named),
+            (at.units(), at.width),
+            (at.compress(), self.compress as usize),
+            (at.seek_info(), seek_info),
+            (at.nbytes_info(), nbytes_info),
+        ] {
+            field.put(&mut bytes, number as u64);
+        }
         bytes
     }
 
@@ -247,12 +365,12 @@ impl Plan {
         let site = &sites[index];
         key.nbytes = site.size as u32;
         key.keylen = item.keylen() as u16;
-        key.seek_key = site.start as u32;
+        key.seek_key = site.start as u64;
         if !item.packed {
             key.objlen = key.nbytes.saturating_sub(key.keylen.into());
         }
         if let Some(pdir) = item.pdir {
-            key.seek_pdir = sites[pdir].start as u32;
+            key.seek_pdir = sites[pdir].start as u64;
         }
         key
     }
@@ -260,19 +378,20 @@ impl Plan {
     fn piece(&self, index: usize, sites: &[Site]) -> Vec<u8> {
         let item = &self.items[index];
         let mut bytes = match item.role {
-            Role::Gap => (-(4 + item.data.len() as i32)).to_be_bytes().to_vec(),
+            // A gap of 2^31 bytes has the least number that there is.
+            Role::Gap => low_bytes(((4 + item.data.len() + item.zeros) as u64).wrapping_neg(), 4),
             _ => self.key(index, sites).header(),
         };
         bytes.extend(vec![0x2e; item.more]);
         bytes.extend(&item.names);
         match item.role {
             Role::Head => bytes.extend(self.directory(index, 0, sites)),
-            Role::Dir { parent } => bytes.extend(self.directory(index, sites[parent].start as u32, sites)),
+            Role::Dir { parent } => bytes.extend(self.directory(index, sites[parent].start, sites)),
             Role::Keys { .. } => {
                 bytes.extend((item.copies.len() as u32).to_be_bytes());
                 bytes.extend(item.copies.iter().flat_map(|&copy| self.key(copy, sites).header()));
             }
-            Role::Free => bytes.extend(self.segments(item.version, sites)),
+            Role::Free => bytes.extend(self.segments(item, sites)),
             _ => {}
         }
         bytes.extend(&item.data);
@@ -280,23 +399,32 @@ impl Plan {
         bytes
     }
 
-    fn directory(&self, index: usize, parent: u32, sites: &[Site]) -> Vec<u8> {
+    fn directory(&self, index: usize, parent: usize, sites: &[Site]) -> Vec<u8> {
         let item = &self.items[index];
         let [seek_keys, nbytes_keys] = item.list.map_or([0; 2], |list| [sites[list].start, sites[list].size]);
         let named = item.keylen() + item.names.len();
-        let numbers = [nbytes_keys as u32, named as u32, sites[index].start as u32, parent, seek_keys as u32];
-        let mut bytes = item.version.to_be_bytes().to_vec();
-        bytes.extend(item.dates.iter().chain(&numbers).flat_map(|number| number.to_be_bytes()));
+        let at = DirectoryAt { at: 0, width: width::of(item.version.into()) };
+        let mut bytes = [item.version.to_be_bytes().to_vec(), item.dates.map(u32::to_be_bytes).concat()].concat();
+        bytes.resize(at.size(), 0);
+        for (field, number) in [
+            (at.nbytes_keys(), nbytes_keys),
+            (at.nbytes_name(), named),
+            (at.seek_dir(), sites[index].start),
+            (at.seek_parent(), parent),
+            (at.seek_keys(), seek_keys),
+        ] {
+            field.put(&mut bytes, number as u64);
+        }
         bytes
     }
 
-    fn segments(&self, version: u16, sites: &[Site]) -> Vec<u8> {
-        let gaps = self.order.iter().filter(|&&index| self.items[index].role == Role::Gap);
+    fn segments(&self, free: &Item, sites: &[Site]) -> Vec<u8> {
         // The first and the last byte. No site is known in the first round.
-        let segment = |site: &Site| [site.start, (site.start + site.size).saturating_sub(1)];
-        let mut segments: Vec<[usize; 2]> = gaps.map(|&gap| segment(&sites[gap])).collect();
-        segments.push([end(sites), FREE_END as usize]);
-        segments.iter().flat_map(|segment| segment_bytes(version, segment.map(|n| n as u32))).collect()
+        let segment = |gap: usize| [sites[gap].start, (sites[gap].start + sites[gap].size).saturating_sub(1)];
+        let mut segments: Vec<[u64; 2]> = self.gaps().map(|gap| segment(gap).map(|place| place as u64)).collect();
+        let end = end(sites) as u64;
+        segments.push([end, free.beyond.map_or(FREE_END, |beyond| end.saturating_add(beyond))]);
+        segments.iter().enumerate().flat_map(|(nth, ends)| segment_bytes(free.segment(nth), *ends)).collect()
     }
 }
 
@@ -305,8 +433,32 @@ pub fn end(sites: &[Site]) -> usize {
     BEGIN + sites.iter().map(|site| site.size).sum::<usize>()
 }
 
-pub fn segment_bytes(version: u16, [first, last]: [u32; 2]) -> Vec<u8> {
-    [&version.to_be_bytes()[..], &first.to_be_bytes(), &last.to_be_bytes()].concat()
+/// A free segment. Of a place that has no room in its version, the greatest there is.
+pub fn segment_bytes(version: u16, places: [u64; 2]) -> Vec<u8> {
+    let mut bytes = version.to_be_bytes().to_vec();
+    let at = SegmentAt { at: 0, width: width::of(version.into()) };
+    bytes.resize(at.size(), 0);
+    for (field, place) in [at.first(), at.last()].into_iter().zip(places) {
+        field.put(&mut bytes, place.min(field.most()));
+    }
+    bytes
+}
+
+/// The segment at a place of these bytes. It may end behind them.
+fn segment_at(data: &[u8], at: usize) -> SegmentAt {
+    let version = Field { at, width: 2 }.get(data);
+    SegmentAt { at, width: width::of(version as u32) }
+}
+
+/// How many whole segments these bytes begin with.
+fn segments_in(data: &[u8]) -> usize {
+    let mut count = 0;
+    let mut segment = segment_at(data, 0);
+    while segment.at + segment.size() <= data.len() {
+        count += 1;
+        segment = segment_at(data, segment.at + segment.size());
+    }
+    count
 }
 
 /// How many of each there may be in a random plan.
@@ -329,7 +481,7 @@ const NAMES: [&str; 6] = ["x", "hist", "StreamerInfo", "", "a", "a longer name; 
 
 /// A random plan of a valid file, in any order after the head.
 pub fn plan(rng: &mut Rng, size: Size) -> Plan {
-    let version = rng.pick(&[0, 30206, 62400, 999_999]);
+    let version = rng.pick(&[0, 62400, 999_999, 1_000_000, 1_062_400, u32::MAX]);
     let mut plan = Plan { version, compress: rng.u32(), rest: rng.u64() as u8, ..Plan::default() };
     let least = usize::from(size.rich);
     let some = |rng: &mut Rng, least: usize, most: usize| least + rng.below(most + 1 - least);
@@ -359,9 +511,20 @@ pub fn plan(rng: &mut Rng, size: Size) -> Plan {
     if size.rich || rng.once_in(2) {
         info(rng, &mut plan);
     }
-    plan.add(Item::new(rng, Role::Free, "TFile", "a"));
+    free(rng, &mut plan);
     shuffle(rng, &mut plan.order[1..]);
     plan
+}
+
+/// The free list. In a wide file its segments are of any widths, and the final one ends anywhere behind END.
+fn free(rng: &mut Rng, plan: &mut Plan) {
+    let mut free = Item::new(rng, Role::Free, "TFile", "a");
+    if plan.is_wide() {
+        let any = [&NARROW_SEGMENTS[..], &WIDE_SEGMENTS].concat();
+        free.segments = (0..1 + rng.below(4)).map(|_| rng.pick(&any)).collect();
+        free.beyond = rng.pick(&[None, Some(1), Some(2), Some(1 << 32), Some(u64::MAX)]);
+    }
+    plan.add(free);
 }
 
 /// A plan of a valid file of exactly `pieces` pieces, at least 300, with `subdirs` subdirectories. In
@@ -526,9 +689,17 @@ pub fn one_root_plan() -> Plan {
     let list = add(Role::Keys { of: head }, "TFile", Some(head), Vec::new());
     add(Role::Gap, "", None, vec![0; 8]);
     let free = add(Role::Free, "TFile", Some(head), Vec::new());
-    plan.items[free].version = 1;
+    plan.items[free].segments = vec![1];
     plan.items[head].names = b"\x01a\x00".to_vec();
     plan.items[head].list = Some(list);
     plan.list(head, x);
+    plan
+}
+
+/// The same of its wide form.
+pub fn wide_root_plan() -> Plan {
+    let mut plan = one_root_plan().of_width(true);
+    let free = plan.find(Role::Free).expect("one.root has a free list");
+    plan.items[free].beyond = Some(6_000_000_000 - 432);
     plan
 }

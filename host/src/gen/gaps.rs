@@ -1,15 +1,9 @@
 //! one.root with other gaps, each as ROOT's `TFile::MakeFree(first, last)` writes one: at `first` stands the number
-//! first - last - 1, and its segment is first and last. ROOT would join adjacent gaps, and end the file before a last one.
+//! first - last - 1, and its segment is first and last. ROOT would join adjacent gaps, and end the file before a last
+//! one.
 
-use super::files::segment_bytes;
-use super::one_root;
-use crate::model::audit::FREE_END;
-
-/// Where one.root's gap begins, and its free list.
-const GAP: usize = 297;
-const FREE: usize = 309;
-const KEYLEN: usize = 35;
-const SEGMENT: usize = 10;
+use super::fields::{Field, SegmentAt};
+use super::files::{end, one_root_plan, wide_root_plan, Plan, Role};
 
 /// What is to be written of such a file. What stands nowhere here is not looked at.
 pub struct Gapped {
@@ -20,37 +14,45 @@ pub struct Gapped {
     pub seek_free: usize,
     /// The first and last byte of each gap.
     pub gaps: Vec<[usize; 2]>,
+    segments: Vec<SegmentAt>,
 }
+
+/// Such a file with gaps of these sizes: `Gapped::new` or `Gapped::wide`.
+pub type Form = fn(&[usize], &[usize]) -> Gapped;
 
 impl Gapped {
     /// Gaps of these sizes before the free list and after it, each right after the other.
     pub fn new(before: &[usize], after: &[usize]) -> Self {
-        let nfree = before.len() + after.len() + 1;
-        let nbytes = KEYLEN + SEGMENT * nfree;
-        let (mut gaps, seek_free) = from(GAP, before);
-        let (more, end) = from(seek_free + nbytes, after);
-        gaps.extend(more);
-
-        let mut head = one_root()[..GAP].to_vec();
-        for (at, number) in [(12, end), (16, seek_free), (20, nbytes), (24, nfree)] {
-            put32(&mut head, at, number);
-        }
-        let mut list = one_root()[FREE..FREE + KEYLEN].to_vec();
-        for (at, number) in [(0, nbytes), (6, nbytes - KEYLEN), (18, seek_free)] {
-            put32(&mut list, at, number);
-        }
-        let segments = gaps.iter().copied().chain([[end, FREE_END as usize]]);
-        list.extend(segments.flat_map(|segment| segment_bytes(1, segment.map(|place| place as u32))));
-
-        let mut stretches = vec![(0, head), (seek_free, list)];
-        let number = |[first, last]: [usize; 2]| (first as i64 - last as i64 - 1) as i32;
-        stretches.extend(gaps.iter().map(|&gap| (gap[0], number(gap).to_be_bytes().to_vec())));
-        Gapped { stretches, end, seek_free, gaps }
+        Self::of(one_root_plan(), before, after)
     }
 
-    /// Where the first and last of a segment stand; the final one follows those of the gaps.
-    pub fn segment(&self, nth: usize) -> [usize; 2] {
-        [2, 6].map(|field| self.seek_free + KEYLEN + SEGMENT * nth + field)
+    /// The same with eight-byte offsets.
+    pub fn wide(before: &[usize], after: &[usize]) -> Self {
+        Self::of(wide_root_plan(), before, after)
+    }
+
+    /// A form of one.root with these gaps in the place of its own.
+    pub fn of(mut plan: Plan, before: &[usize], after: &[usize]) -> Self {
+        let [gap, free] = [Role::Gap, Role::Free].map(|role| plan.find(role).expect("one.root has it"));
+        plan.order.retain(|&index| index != gap && index != free);
+        add(&mut plan, gap, before);
+        plan.order.push(free);
+        add(&mut plan, gap, after);
+
+        let sites = plan.sites();
+        let gaps = plan.order.iter().filter(|&&index| plan.items[index].role == Role::Gap);
+        Gapped {
+            stretches: plan.laid(&sites).collect(),
+            end: end(&sites),
+            seek_free: sites[free].start,
+            gaps: gaps.map(|&gap| [sites[gap].start, sites[gap].start + sites[gap].size - 1]).collect(),
+            segments: sites[free].segments.clone(),
+        }
+    }
+
+    /// The first and last of a segment; the final one follows those of the gaps.
+    pub fn segment(&self, nth: usize) -> [Field; 2] {
+        [self.segments[nth].first(), self.segments[nth].last()]
     }
 
     pub fn bytes(&self) -> Vec<u8> {
@@ -62,17 +64,12 @@ impl Gapped {
     }
 }
 
-/// The gaps of these sizes from a place on, and where the last ends.
-fn from(start: usize, sizes: &[usize]) -> (Vec<[usize; 2]>, usize) {
-    let mut end = start;
-    let mut gap = |size: &usize| {
-        let first = end;
-        end += size;
-        [first, end - 1]
-    };
-    (sizes.iter().map(&mut gap).collect(), end)
-}
-
-pub fn put32(file: &mut [u8], at: usize, number: usize) {
-    file[at..at + 4].copy_from_slice(&(number as u32).to_be_bytes());
+/// Adds gaps of these sizes, otherwise like one of the plan.
+fn add(plan: &mut Plan, like: usize, sizes: &[usize]) {
+    for size in sizes {
+        let mut gap = plan.items[like].clone();
+        gap.data.clear();
+        gap.zeros = size - 4;
+        plan.add(gap);
+    }
 }

@@ -106,21 +106,27 @@ pub fn all_kinds(rng: &mut Rng) -> Vec<Class> {
     classes
 }
 
-/// The record at `at` of a file.
-pub fn build(rng: &mut Rng, at: u32, classes: &[Class], twist: Twist) -> Info {
+/// The record at `at` of a file, with four-byte offsets in its key.
+pub fn build(rng: &mut Rng, at: u64, classes: &[Class], twist: Twist) -> Info {
+    build_of(rng, 4, at, classes, twist)
+}
+
+/// The same with a key of a version.
+pub fn build_of(rng: &mut Rng, version: u16, at: u64, classes: &[Class], twist: Twist) -> Info {
     let strings = ["TList", "StreamerInfo", "Doubly linked list"].map(|string| string.as_bytes().to_vec());
     let mut key = RawKey {
         nbytes: 0,
-        version: 4,
+        version,
         objlen: 0,
         datime: rng.u32(),
-        keylen: 64,
+        keylen: 0,
         cycle: 1,
         seek_key: at,
         seek_pdir: 100,
         strings,
     };
-    assert_eq!(key.sum(), 64);
+    let keylen = key.sum();
+    key.keylen = keylen as u16;
     let mut builder =
         Builder { bytes: key.header(), fields: Vec::new(), rows: Vec::new(), tags: HashMap::new(), twist, noise: rng };
     builder.list(classes);
@@ -129,9 +135,9 @@ pub fn build(rng: &mut Rng, at: u32, classes: &[Class], twist: Twist) -> Info {
         field.end = field.end.min(bytes.len());
     }
     key.nbytes = bytes.len() as u32;
-    key.objlen = key.nbytes - 64;
-    bytes[..64].copy_from_slice(&key.header());
-    Info { bytes, keylen: 64, fields, rows }
+    key.objlen = key.nbytes - u32::from(key.keylen);
+    bytes[..keylen].copy_from_slice(&key.header());
+    Info { bytes, keylen, fields, rows }
 }
 
 struct Builder<'a> {

@@ -41,6 +41,7 @@ pub fn plan(rng: &mut Rng, pieces: usize, zeros: usize) -> Plan {
 fn add(rng: &mut Rng, plan: &mut Plan, role: Role, [class, name]: [&str; 2], pdir: Option<usize>) -> usize {
     let mut item = Item::new(rng, role, class, name);
     (item.key.version, item.key.cycle, item.version, item.pdir) = (4, 1, 5, pdir);
+    item.segments = vec![1];
     item.key.strings[2] = b"counts per channel".to_vec();
     plan.add(item)
 }

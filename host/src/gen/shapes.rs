@@ -11,8 +11,8 @@ pub struct Shape {
     pub plan: fn(usize) -> Plan,
 }
 
-/// Every shape. The first is a file as it would be written.
-pub const ALL: [Shape; 9] = [
+/// Every shape. The first is a file as it would be written; `wide` and `wide-one` are the first two with wide offsets.
+pub const ALL: [Shape; 11] = [
     Shape { name: "tree", plan: tree },
     Shape { name: "one", plan: one_directory },
     Shape { name: "scattered", plan: scattered },
@@ -22,6 +22,8 @@ pub const ALL: [Shape; 9] = [
     Shape { name: "zigzag", plan: |pieces| chain(pieces, zigzag) },
     Shape { name: "random-tree", plan: random_tree },
     Shape { name: "high-low", plan: high_low },
+    Shape { name: "wide", plan: |pieces| tree(pieces).of_width(true) },
+    Shape { name: "wide-one", plan: |pieces| one_directory(pieces).of_width(true) },
 ];
 
 /// Directories of 20 pieces each, in the order in which they are written.
@@ -31,7 +33,7 @@ fn tree(pieces: usize) -> Plan {
 
 /// One directory that lists everything.
 fn one_directory(pieces: usize) -> Plan {
-    plan_of(&mut Rng::new(1), pieces, 0, false)
+    plan_of(&mut Rng::new(1), pieces, 0, false).of_width(false)
 }
 
 /// The tree with its pieces in any order.
@@ -119,6 +121,7 @@ fn directories(pieces: usize, parents: &[usize], order: &[usize]) -> Plan {
 fn item(rng: &mut Rng, role: Role, class: &str, pdir: Option<usize>) -> Item {
     let mut item = Item::new(rng, role, class, "detector");
     (item.key.version, item.key.cycle, item.version, item.pdir) = (4, 1, 5, pdir);
+    item.segments = vec![1];
     item.key.strings[2].clear();
     item
 }

@@ -2,7 +2,7 @@
 
 use super::bytes::Cursor;
 use super::key::{self, Key, Piece};
-use super::{number, Answer};
+use super::{number, width, Answer};
 use std::collections::BTreeMap;
 use std::ops::Range;
 
@@ -10,21 +10,17 @@ pub use crate::ffi::part;
 
 /// The bytes before the first piece, and the place of the head.
 pub const BEGIN: usize = 100;
-/// The greatest END.
-const MOST_END: u32 = 1_999_999_999;
-/// Where the final free segment ends.
-pub const FREE_END: u32 = 2_000_000_000;
-/// The greatest version of a directory header or a free segment.
-const MOST_VERSION: u16 = 1000;
-/// The bytes of a free segment.
-const SEGMENT: u64 = 10;
+/// The greatest END of a file with four-byte offsets.
+const MOST_END: u64 = 1_999_999_999;
+/// Where the final free segment of such a file ends.
+pub const FREE_END: u64 = 2_000_000_000;
 
 /// A row of the three tables.
 #[derive(Clone, Copy, Debug, PartialEq, Eq)]
 pub struct Row {
-    pub start: u32,
-    pub part: u32,
-    pub owner: u32,
+    pub start: u64,
+    pub part: u64,
+    pub owner: u64,
 }
 
 /// The audit with tables of `room` rows: its answer, and the rows of a pass.
@@ -36,15 +32,15 @@ pub fn audit(file: &[u8], room: usize) -> (Answer, Vec<Row>) {
 }
 
 fn rows_or_refusal(file: &[u8], room: usize) -> Result<Vec<Row>, Answer> {
-    let header = Header::read(file).map_err(|number| Answer::refusal(number, 0))?;
+    let header = Header::good(file).map_err(|number| Answer::refusal(number, 0))?;
     let rows = chain(file)?;
     if rows.len() > room {
         return Err(Answer { number: number::UNFINISHED, place: 0, count: rows.len() as u64 });
     }
     let mut audit = Audit { file, rows };
     let directory = audit.head(&header).ok_or(Answer::refusal(number::HEAD, BEGIN as u64))?;
-    audit.free(&header).ok_or(Answer::refusal(number::FREE, header.seek_free.into()))?;
-    audit.info(&header).ok_or(Answer::refusal(number::INFO, header.seek_info.into()))?;
+    audit.free(&header).ok_or(Answer::refusal(number::FREE, header.seek_free))?;
+    audit.info(&header).ok_or(Answer::refusal(number::INFO, header.seek_info))?;
     audit.directories(directory)?;
     Ok(audit.rows)
 }
@@ -54,39 +50,66 @@ pub fn pieces(file: &[u8]) -> Option<usize> {
     chain(file).ok().map(|rows| rows.len())
 }
 
-/// The fields of the file header that are read once it is good.
+/// The fields of the file header, but for Compress.
 struct Header {
-    seek_free: u32,
+    version: u32,
+    begin: u32,
+    end: u64,
+    seek_free: u64,
     nbytes_free: u32,
     nfree: u32,
     nbytes_name: u32,
-    seek_info: u32,
+    units: u8,
+    seek_info: u64,
     nbytes_info: u32,
 }
 
 impl Header {
-    /// The header, or the number of the refusal.
-    fn read(file: &[u8]) -> Result<Self, u64> {
-        if file.len() < BEGIN {
-            return Err(number::SHORT);
-        }
-        let mut cursor = Cursor::new(file, 4);
-        let mut next = || cursor.u32().ok_or(number::SHORT);
-        let [version, begin, end, seek_free, nbytes_free, nfree, nbytes_name] =
-            [next()?, next()?, next()?, next()?, next()?, next()?, next()?];
-        let units = cursor.u8().ok_or(number::SHORT)?;
-        let mut next = || cursor.u32().ok_or(number::SHORT);
-        let [_compress, seek_info, nbytes_info] = [next()?, next()?, next()?];
+    fn read(file: &[u8]) -> Option<Self> {
+        let mut cursor = Cursor::new(file.get(..BEGIN)?, 4);
+        let [version, begin] = [cursor.u32()?, cursor.u32()?];
+        let width = width::of_file(version);
+        let [end, seek_free] = [cursor.offset(width)?, cursor.offset(width)?];
+        let [nbytes_free, nfree, nbytes_name] = [cursor.u32()?, cursor.u32()?, cursor.u32()?];
+        let units = cursor.u8()?;
+        let _compress = cursor.u32()?;
+        let (seek_info, nbytes_info) = (cursor.offset(width)?, cursor.u32()?);
+        Some(Header { version, begin, end, seek_free, nbytes_free, nfree, nbytes_name, units, seek_info, nbytes_info })
+    }
+
+    /// The header of a file if it is good, or the number of the refusal.
+    fn good(file: &[u8]) -> Result<Self, u64> {
+        let header = Header::read(file).ok_or(number::SHORT)?;
         if !file.starts_with(b"root") {
             return Err(number::MAGIC);
         }
-        if version >= 1_000_000 || units != 4 {
+        if usize::from(header.units) != width::of_file(header.version) {
             return Err(number::WIDE);
         }
-        if begin as usize != BEGIN || u64::from(end) != file.len() as u64 || end > MOST_END {
+        let too_long = !header.is_wide() && header.end > MOST_END;
+        if header.begin as usize != BEGIN || header.end != file.len() as u64 || too_long {
             return Err(number::BOUNDS);
         }
-        Ok(Header { seek_free, nbytes_free, nfree, nbytes_name, seek_info, nbytes_info })
+        Ok(header)
+    }
+
+    fn is_wide(&self) -> bool {
+        self.version >= width::LEAST_WIDE_FILE
+    }
+
+    /// The greatest version of a free segment.
+    fn most_segment(&self) -> u32 {
+        if self.is_wide() {
+            width::MOST
+        } else {
+            width::MOST_NARROW
+        }
+    }
+
+    /// Whether this is the final segment: what follows the file.
+    fn is_final(&self, segment: Segment) -> bool {
+        let good_last = if self.is_wide() { segment.last > self.end } else { segment.last == FREE_END };
+        segment.first == self.end && good_last
     }
 }
 
@@ -100,7 +123,7 @@ fn chain(file: &[u8]) -> Result<Vec<Row>, Answer> {
             Piece::Record(_) => part::UNLISTED,
             Piece::Gap(_) => part::GAP,
         };
-        rows.push(Row { start: at as u32, part, owner: 0 });
+        rows.push(Row { start: at, part, owner: 0 });
         at += piece.size();
     }
     Ok(rows)
@@ -108,35 +131,53 @@ fn chain(file: &[u8]) -> Result<Vec<Row>, Answer> {
 
 /// The header of a directory, but for its dates.
 struct Directory {
-    version: u16,
+    version: u32,
     nbytes_keys: u32,
     nbytes_name: u32,
-    seek_dir: u32,
-    seek_parent: u32,
-    seek_keys: u32,
+    seek_dir: u64,
+    seek_parent: u64,
+    seek_keys: u64,
 }
 
 impl Directory {
-    /// The 30 bytes from `at` on, if the record that ends at `end` holds them.
+    /// The header from `at` on, if the record that ends at `end` holds it.
     fn read(file: &[u8], at: usize, end: usize) -> Option<Self> {
         let mut cursor = Cursor::new(&file[..end], at);
-        let version = cursor.u16()?;
+        let version = cursor.u16()?.into();
+        let width = width::of(version);
         let [_created, _modified] = [cursor.u32()?, cursor.u32()?];
         Some(Directory {
             version,
             nbytes_keys: cursor.u32()?,
             nbytes_name: cursor.u32()?,
-            seek_dir: cursor.u32()?,
-            seek_parent: cursor.u32()?,
-            seek_keys: cursor.u32()?,
+            seek_dir: cursor.offset(width)?,
+            seek_parent: cursor.offset(width)?,
+            seek_keys: cursor.offset(width)?,
         })
     }
 
-    fn is_at(&self, place: u32, parent: u32, nbytes_name: usize) -> bool {
-        self.version <= MOST_VERSION
+    fn is_at(&self, place: u64, parent: u64, nbytes_name: usize) -> bool {
+        self.version <= width::MOST
             && self.seek_dir == place
             && self.seek_parent == parent
             && self.nbytes_name as usize == nbytes_name
+    }
+}
+
+/// The first and the last byte of free space.
+#[derive(Clone, Copy, PartialEq, Eq)]
+struct Segment {
+    first: u64,
+    last: u64,
+}
+
+impl Segment {
+    /// The next segment, if its version is at most `most_version`.
+    fn read(cursor: &mut Cursor, most_version: u32) -> Option<Self> {
+        let version = u32::from(cursor.u16()?);
+        let width = width::of(version);
+        let segment = Segment { first: cursor.offset(width)?, last: cursor.offset(width)? };
+        (version <= most_version).then_some(segment)
     }
 }
 
@@ -160,9 +201,9 @@ struct Audit<'a> {
 
 impl Audit<'_> {
     /// The record of the chain that starts at `place`.
-    fn record(&self, place: u32) -> Option<Record> {
+    fn record(&self, place: u64) -> Option<Record> {
         let row = self.rows.binary_search_by_key(&place, |row| row.start).ok()?;
-        let Ok(Piece::Record(key)) = key::read_piece(self.file, place.into()) else {
+        let Ok(Piece::Record(key)) = key::read_piece(self.file, place) else {
             return None;
         };
         let end = place as usize + key.nbytes as usize;
@@ -170,7 +211,7 @@ impl Audit<'_> {
     }
 
     /// The same, if it is plain and `nbytes` long.
-    fn plain_record(&self, place: u32, nbytes: u32) -> Option<Record> {
+    fn plain_record(&self, place: u64, nbytes: u32) -> Option<Record> {
         self.record(place).filter(|record| record.key.is_plain() && record.key.nbytes == nbytes)
     }
 
@@ -179,7 +220,7 @@ impl Audit<'_> {
     }
 
     /// Gives a part to a record that has none yet.
-    fn give(&mut self, row: usize, part: u32, owner: u32) -> Option<()> {
+    fn give(&mut self, row: usize, part: u64, owner: u64) -> Option<()> {
         let row = &mut self.rows[row];
         if row.part != part::UNLISTED {
             return None;
@@ -189,13 +230,13 @@ impl Audit<'_> {
     }
 
     fn head(&mut self, header: &Header) -> Option<Directory> {
-        let record = self.record(BEGIN as u32)?;
+        let record = self.record(BEGIN as u64)?;
         let good = record.key.is_plain() && record.key.is_unpacked() && self.text(&record.key.class) == b"TFile";
         let mut cursor = Cursor::new(&self.file[..record.end], record.data().start);
         let [_name, _title] = [cursor.string()?, cursor.string()?];
         let named = cursor.at() - BEGIN;
         let directory = Directory::read(self.file, cursor.at(), record.end)?;
-        if !good || !directory.is_at(BEGIN as u32, 0, named) || header.nbytes_name as usize != named {
+        if !good || !directory.is_at(BEGIN as u64, 0, named) || header.nbytes_name as usize != named {
             return None;
         }
         self.give(record.row, part::HEAD, 0)?;
@@ -205,32 +246,23 @@ impl Audit<'_> {
     fn free(&mut self, header: &Header) -> Option<()> {
         let record = self.plain_record(header.seek_free, header.nbytes_free)?;
         let data = record.data();
-        if !record.key.is_unpacked()
-            || self.text(&record.key.class) != b"TFile"
-            || header.nfree == 0
-            || u64::from(header.nfree) * SEGMENT != data.len() as u64
-        {
-            return None;
-        }
         let mut cursor = Cursor::new(&self.file[..data.end], data.start);
-        for (first, last) in self.segments() {
-            let good = cursor.u16()? <= MOST_VERSION && cursor.u32()? == first && cursor.u32()? == last;
-            if !good {
-                return None;
-            }
+        let mut segments = Vec::new();
+        while cursor.at() < data.end {
+            segments.push(Segment::read(&mut cursor, header.most_segment())?);
         }
-        if cursor.at() != data.end {
-            return None;
-        }
-        self.give(record.row, part::FREE, 0)
+        let good = record.key.is_unpacked()
+            && self.text(&record.key.class) == b"TFile"
+            && segments.len() as u64 == u64::from(header.nfree)
+            && header.is_final(segments.pop()?)
+            && segments == self.gaps();
+        good.then(|| self.give(record.row, part::FREE, 0)).flatten()
     }
 
-    /// What the free list must hold: the first and last byte of each gap, then what follows the file.
-    fn segments(&self) -> Vec<(u32, u32)> {
-        let end = self.file.len() as u32;
-        let ends = self.rows.iter().skip(1).map(|row| row.start).chain([end]);
+    fn gaps(&self) -> Vec<Segment> {
+        let ends = self.rows.iter().skip(1).map(|row| row.start).chain([self.file.len() as u64]);
         let gaps = self.rows.iter().zip(ends).filter(|(row, _)| row.part == part::GAP);
-        gaps.map(|(row, end)| (row.start, end - 1)).chain([(end, FREE_END)]).collect()
+        gaps.map(|(row, end)| Segment { first: row.start, last: end - 1 }).collect()
     }
 
     fn info(&mut self, header: &Header) -> Option<()> {
@@ -248,15 +280,15 @@ impl Audit<'_> {
     fn directories(&mut self, head: Directory) -> Result<(), Answer> {
         // Where a directory stands, and where the one that lists it does.
         let mut found = BTreeMap::new();
-        self.list(BEGIN as u32, &head, &mut found)?;
+        self.list(BEGIN as u64, &head, &mut found)?;
         while let Some((place, parent)) = found.pop_first() {
-            let directory = self.subdirectory(place, parent).ok_or(Answer::refusal(number::DIRECTORY, place.into()))?;
+            let directory = self.subdirectory(place, parent).ok_or(Answer::refusal(number::DIRECTORY, place))?;
             self.list(place, &directory, &mut found)?;
         }
         Ok(())
     }
 
-    fn subdirectory(&self, place: u32, parent: u32) -> Option<Directory> {
+    fn subdirectory(&self, place: u64, parent: u64) -> Option<Directory> {
         let record = self.record(place)?;
         let directory = Directory::read(self.file, record.data().start, record.end)?;
         let good = record.key.is_unpacked() && directory.is_at(place, parent, record.key.keylen.into());
@@ -264,13 +296,13 @@ impl Audit<'_> {
     }
 
     /// The keys list of the directory at `place`. The directories that it lists are found.
-    fn list(&mut self, place: u32, directory: &Directory, found: &mut BTreeMap<u32, u32>) -> Result<(), Answer> {
+    fn list(&mut self, place: u64, directory: &Directory, found: &mut BTreeMap<u64, u64>) -> Result<(), Answer> {
         if (directory.seek_keys, directory.nbytes_keys) == (0, 0) {
             return Ok(());
         }
-        let bad_list = Answer::refusal(number::KEYS, directory.seek_keys.into());
+        let bad_list = Answer::refusal(number::KEYS, directory.seek_keys);
         let list = self.list_record(place, directory).ok_or(bad_list)?;
-        self.give(list.row, part::KEYS, place).ok_or(Answer::refusal(number::TWICE, place.into()))?;
+        self.give(list.row, part::KEYS, place).ok_or(Answer::refusal(number::TWICE, place))?;
         let data = list.data();
         let mut cursor = Cursor::new(&self.file[..data.end], data.start);
         let nkeys = cursor.u32().ok_or(bad_list)?;
@@ -293,7 +325,7 @@ impl Audit<'_> {
         }
     }
 
-    fn list_record(&self, place: u32, directory: &Directory) -> Option<Record> {
+    fn list_record(&self, place: u64, directory: &Directory) -> Option<Record> {
         let record = self.plain_record(directory.seek_keys, directory.nbytes_keys)?;
         let good = record.key.is_unpacked()
             && [&b"TFile"[..], b"TDirectory"].contains(&self.text(&record.key.class))
@@ -302,7 +334,7 @@ impl Audit<'_> {
     }
 
     /// The row of the record that the copy at `at` copies for the directory at `place`.
-    fn copied(&self, place: u32, at: usize, copy: &Key) -> Option<usize> {
+    fn copied(&self, place: u64, at: usize, copy: &Key) -> Option<usize> {
         let record = self.record(copy.seek_key)?;
         let original = self.file.get(copy.seek_key as usize..)?.get(..copy.sum())?;
         let good = original == &self.file[at..at + copy.sum()] && copy.seek_pdir == place;

@@ -40,6 +40,11 @@ impl<'a> Cursor<'a> {
         self.array().map(u32::from_be_bytes)
     }
 
+    /// An offset of `width` bytes, at most eight.
+    pub fn offset(&mut self, width: usize) -> Option<u64> {
+        Some(self.take(width)?.iter().fold(0, |number, &byte| number << 8 | u64::from(byte)))
+    }
+
     pub fn i16(&mut self) -> Option<i16> {
         self.array().map(i16::from_be_bytes)
     }

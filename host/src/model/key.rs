@@ -1,15 +1,18 @@
 //! Key headers, the pieces of a file, and the key writer.
 
 use super::bytes::Cursor;
-use super::{number, Answer};
+use super::{number, width, Answer};
 use std::ops::Range;
 
 /// The greatest ObjLen and Nbytes.
 const MOST_BYTES: u64 = 2_147_483_647;
 /// The longest string of a key.
 const LONGEST: usize = 254;
+
 /// The bytes of a key header before its strings.
-const FIXED: usize = 26;
+fn fixed(version: u32) -> usize {
+    18 + 2 * width::of(version)
+}
 
 /// The key header of a record. A string is its range of bytes in the file.
 #[derive(Clone, Debug, PartialEq, Eq)]
@@ -20,8 +23,8 @@ pub struct Key {
     pub datime: u32,
     pub keylen: u16,
     pub cycle: i16,
-    pub seek_key: u32,
-    pub seek_pdir: u32,
+    pub seek_key: u64,
+    pub seek_pdir: u64,
     pub class: Range<usize>,
     pub name: Range<usize>,
     pub title: Range<usize>,
@@ -30,7 +33,7 @@ pub struct Key {
 impl Key {
     /// What its header takes.
     pub fn sum(&self) -> usize {
-        FIXED + 1 + self.title.end - self.class.start
+        fixed(self.version.into()) + 1 + self.title.end - self.class.start
     }
 
     /// Whether nothing stands between the header and KeyLen.
@@ -72,7 +75,7 @@ pub fn read_piece(file: &[u8], at: u64) -> Result<Piece, u64> {
         return Ok(Piece::Gap(size as u64));
     }
     match read_key(&file[..start + size], start) {
-        Some(key) if u64::from(key.seek_key) == at => Ok(Piece::Record(key)),
+        Some(key) if key.seek_key == at => Ok(Piece::Record(key)),
         _ => Err(number::KEY),
     }
 }
@@ -80,27 +83,29 @@ pub fn read_piece(file: &[u8], at: u64) -> Result<Piece, u64> {
 /// The well-formed key header from `start` on, read up to the end of `bytes`.
 pub fn read_key(bytes: &[u8], start: usize) -> Option<Key> {
     let mut cursor = Cursor::new(bytes, start);
+    let (nbytes, version) = (cursor.u32()?, cursor.u16()?);
+    let width = width::of(version.into());
     let key = Key {
-        nbytes: cursor.u32()?,
-        version: cursor.u16()?,
+        nbytes,
+        version,
         objlen: cursor.u32()?,
         datime: cursor.u32()?,
         keylen: cursor.u16()?,
         cycle: cursor.i16()?,
-        seek_key: cursor.u32()?,
-        seek_pdir: cursor.u32()?,
+        seek_key: cursor.offset(width)?,
+        seek_pdir: cursor.offset(width)?,
         class: cursor.string()?,
         name: cursor.string()?,
         title: cursor.string()?,
     };
     let sum = cursor.at() - start;
-    let fits = well_formed(key.nbytes, key.version.into(), key.objlen, key.keylen.into(), sum);
+    let fits = well_formed(key.nbytes, version.into(), key.objlen, key.keylen.into(), sum);
     fits.then_some(key)
 }
 
 /// Whether a header whose strings are of a good length is well formed. `sum` is what it takes.
 fn well_formed(nbytes: u32, version: u32, objlen: u32, keylen: usize, sum: usize) -> bool {
-    (1..=1000).contains(&version)
+    (1..=width::MOST).contains(&version)
         && u64::from(objlen) <= MOST_BYTES
         && u64::from(nbytes) <= MOST_BYTES
         && sum <= keylen
@@ -125,7 +130,7 @@ pub struct NewKey<'a> {
 impl NewKey<'_> {
     /// What its header takes.
     pub fn sum(&self) -> usize {
-        FIXED + 3 + self.class.len() + self.name.len() + self.title.len()
+        fixed(self.version) + 3 + self.class.len() + self.name.len() + self.title.len()
     }
 }
 
@@ -137,8 +142,7 @@ pub fn write_key(key: &NewKey, buf: &mut [u8]) -> Answer {
     let Some(header) = encode(key) else {
         return Answer::refusal(number::FIELD, 0);
     };
-    // The header is encoded, so seek_key has 32 bits.
-    if key.seek_key + u64::from(key.nbytes) > buf.len() as u64 {
+    if key.seek_key.checked_add(key.nbytes.into()).is_none_or(|end| end > buf.len() as u64) {
         return Answer::refusal(number::ROOM, 0);
     }
     buf[key.seek_key as usize..][..header.len()].copy_from_slice(&header);
@@ -158,11 +162,19 @@ fn encode(key: &NewKey) -> Option<Vec<u8>> {
     header.extend(key.datime.to_be_bytes());
     header.extend(u16::try_from(sum).ok()?.to_be_bytes());
     header.extend(i16::try_from(key.cycle).ok()?.to_be_bytes());
-    header.extend(u32::try_from(key.seek_key).ok()?.to_be_bytes());
-    header.extend(u32::try_from(key.seek_pdir).ok()?.to_be_bytes());
+    for offset in [key.seek_key, key.seek_pdir] {
+        header.extend(offset_bytes(offset, width::of(key.version))?);
+    }
     for string in [key.class, key.name, key.title] {
         header.push(u8::try_from(string.len()).ok()?);
         header.extend(string);
     }
     Some(header)
+}
+
+/// An offset in `width` bytes, if it fits them.
+fn offset_bytes(offset: u64, width: usize) -> Option<Vec<u8>> {
+    let bytes = offset.to_be_bytes();
+    let (above, bytes) = bytes.split_at(bytes.len() - width);
+    above.iter().all(|&byte| byte == 0).then(|| bytes.to_vec())
 }

@@ -7,5 +7,6 @@ pub mod date;
 pub mod key;
 pub mod rules;
 pub mod streamer;
+pub mod width;
 
 pub use crate::ffi::{number, Answer};

@@ -1,5 +1,5 @@
-//! The rules for a pass as statements over the bytes, the partition (document 01: cut) and an assignment (giving). They are checked for
-//! every set of directories that could be, without any order: slow, and for small files only.
+//! The rules for a pass as statements over the bytes, the partition (document 01: cut) and an assignment (giving). They
+//! are checked for every set of directories that could be, without any order: slow, and for small files only.
 
 use super::audit::Row;
 use crate::ffi::part;
@@ -10,10 +10,10 @@ const MOST_DIRECTORIES: usize = 12;
 
 /// Every assignment that meets the rules, as rows. There should never be two.
 pub fn assignments(file: &[u8]) -> Vec<Vec<Row>> {
-    let Some(partition) = header_holds(file).then(|| partition(file, 100)).flatten() else {
+    let Some((header, partition)) = header(file).zip(partition(file, 100)) else {
         return Vec::new();
     };
-    let mut rules = Rules { file, partition, lists: HashMap::new() };
+    let mut rules = Rules { file, header, partition, lists: HashMap::new() };
     if !(rules.head_holds() && rules.free_holds() && rules.info_holds()) {
         return Vec::new();
     }
@@ -35,6 +35,15 @@ fn subsets(items: &[usize]) -> impl Iterator<Item = Vec<usize>> + '_ {
 fn number(file: &[u8], at: usize, width: usize, end: usize) -> Option<usize> {
     let fits = at + width <= end && end <= file.len();
     fits.then(|| (at..at + width).fold(0, |number, i| number * 256 + usize::from(file[i])))
+}
+
+/// The bytes of an offset in a key, a directory header or a free segment of a version.
+fn width(version: usize) -> usize {
+    if version > 1000 {
+        8
+    } else {
+        4
+    }
 }
 
 /// The string whose length byte is at `at`, and where it ends.
@@ -59,27 +68,50 @@ struct Key<'a> {
 /// The well-formed key header at `at`, read within `end`.
 fn key(file: &[u8], at: usize, end: usize) -> Option<Key<'_>> {
     let field = |offset, width| number(file, at + offset, width, end);
-    let (class, next) = string(file, at + 26, end)?;
+    let version = field(4, 2)?;
+    let w = width(version);
+    let (class, next) = string(file, at + 18 + 2 * w, end)?;
     let (name, next) = string(file, next, end)?;
     let (_, next) = string(file, next, end)?;
     let sum = next - at;
     let (nbytes, objlen, keylen) = (field(0, 4)?, field(6, 4)?, field(14, 2)?);
     let (plain, unpacked) = (keylen == sum, objlen + keylen == nbytes);
-    let small = objlen < 1 << 31 && nbytes < 1 << 31 && (1..=1000).contains(&field(4, 2)?);
-    let (seek_key, seek_pdir) = (field(18, 4)?, field(22, 4)?);
+    let small = objlen < 1 << 31 && nbytes < 1 << 31 && (1..=2000).contains(&version);
+    let (seek_key, seek_pdir) = (field(18, w)?, field(18 + w, w)?);
     let well_formed = small && sum <= keylen && keylen <= nbytes;
     well_formed.then_some(Key { nbytes, keylen, plain, unpacked, seek_key, seek_pdir, class, name })
 }
 
-fn header_holds(file: &[u8]) -> bool {
-    let field = |at| number(file, at, 4, 100);
-    file.len() >= 100
-        && &file[..4] == b"root"
-        && field(4) < Some(1_000_000)
-        && file[32] == 4
-        && field(8) == Some(100)
-        && field(12) == Some(file.len())
-        && file.len() <= 1_999_999_999
+/// The fields of the file header that the rules speak of.
+struct Header {
+    wide: bool,
+    seek_free: usize,
+    nbytes_free: usize,
+    nfree: usize,
+    nbytes_name: usize,
+    seek_info: usize,
+    nbytes_info: usize,
+}
+
+/// The file header, if it keeps its rule.
+fn header(file: &[u8]) -> Option<Header> {
+    let field = |at, width| number(file, at, width, 100);
+    let wide = field(4, 4)? >= 1_000_000;
+    let w = if wide { 8 } else { 4 };
+    let holds = &file[..4] == b"root"
+        && field(24 + 2 * w, 1)? == w
+        && field(8, 4)? == 100
+        && field(12, w)? == file.len()
+        && (wide || file.len() <= 1_999_999_999);
+    holds.then_some(Header {
+        wide,
+        seek_free: field(12 + w, w)?,
+        nbytes_free: field(12 + 2 * w, 4)?,
+        nfree: field(16 + 2 * w, 4)?,
+        nbytes_name: field(20 + 2 * w, 4)?,
+        seek_info: field(29 + 2 * w, w)?,
+        nbytes_info: field(29 + 3 * w, 4)?,
+    })
 }
 
 /// Where the pieces start that fill the file from `at` on, and whether each is a record.
@@ -112,15 +144,28 @@ struct Directory {
 }
 
 fn directory(file: &[u8], at: usize, end: usize) -> Option<Directory> {
-    let field = |offset| number(file, at + offset, 4, end);
-    number(file, at, 2, end).filter(|&version| version <= 1000)?;
+    let field = |offset, width| number(file, at + offset, width, end);
+    let w = field(0, 2).filter(|&version| version <= 2000).map(width)?;
     Some(Directory {
-        nbytes_keys: field(10)?,
-        nbytes_name: field(14)?,
-        seek_dir: field(18)?,
-        seek_parent: field(22)?,
-        seek_keys: field(26)?,
+        nbytes_keys: field(10, 4)?,
+        nbytes_name: field(14, 4)?,
+        seek_dir: field(18, w)?,
+        seek_parent: field(18 + w, w)?,
+        seek_keys: field(18 + 2 * w, w)?,
     })
+}
+
+/// The free segments that fill a free list's data, each its first and last. None if they do not.
+fn segments(data: &[u8], most_version: usize) -> Option<Vec<(usize, usize)>> {
+    let mut segments = Vec::new();
+    let mut at = 0;
+    while at != data.len() {
+        let field = |offset, width| number(data, at + offset, width, data.len());
+        let w = field(0, 2).filter(|&version| version <= most_version).map(width)?;
+        segments.push((field(2, w)?, field(2 + w, w)?));
+        at += 2 + 2 * w;
+    }
+    Some(segments)
 }
 
 /// Where the keys list of a directory stands, or 0, and its copies.
@@ -128,16 +173,13 @@ type List<'a> = (usize, Vec<Key<'a>>);
 
 struct Rules<'a> {
     file: &'a [u8],
+    header: Header,
     partition: Vec<(usize, bool)>,
     /// For each record that could be a directory, its list if that and its copies keep their rules.
     lists: HashMap<usize, Option<List<'a>>>,
 }
 
 impl<'a> Rules<'a> {
-    fn field(&self, at: usize) -> usize {
-        number(self.file, at, 4, self.file.len()).unwrap()
-    }
-
     /// The key of the record of the partition at `at`.
     fn record(&self, at: usize) -> Option<Key<'a>> {
         self.partition.contains(&(at, true)).then(|| {
@@ -181,34 +223,43 @@ impl<'a> Rules<'a> {
             && directory.seek_dir == 100
             && directory.seek_parent == 0
             && directory.nbytes_name == names - 100
-            && self.field(28) == names - 100
+            && self.header.nbytes_name == names - 100
     }
 
     fn free_holds(&self) -> bool {
-        let (seek_free, nfree) = (self.field(16), self.field(24));
+        let Header { wide, seek_free, nbytes_free, nfree, .. } = self.header;
         let Some(key) = self.record(seek_free) else {
             return false;
         };
         let data = &self.file[seek_free + key.keylen..seek_free + key.nbytes];
-        let segments: Vec<_> = data.chunks(10).collect();
-        let firsts_and_lasts: Vec<_> = segments.iter().map(|segment| segment.get(2..10)).collect();
-        let after = |i: usize| self.partition.get(i + 1).map_or(self.file.len(), |&(at, _)| at);
-        let gaps = self.partition.iter().enumerate().filter(|(_, (_, is_record))| !is_record);
-        let mut spaces: Vec<_> = gaps.map(|(i, &(at, _))| pair(at, after(i) - 1)).collect();
-        spaces.push(pair(self.file.len(), 2_000_000_000));
+        let Some(segments) = segments(data, if wide { 2000 } else { 1000 }) else {
+            return false;
+        };
         seek_free != 100
             && key.plain
             && key.unpacked
             && key.class == b"TFile"
-            && key.nbytes == self.field(20)
+            && key.nbytes == nbytes_free
             && nfree >= 1
-            && data.len() == 10 * nfree
-            && segments.iter().all(|segment| number(segment, 0, 2, segment.len()) <= Some(1000))
-            && firsts_and_lasts == spaces.iter().map(|space| Some(&space[..])).collect::<Vec<_>>()
+            && segments.len() == nfree
+            && segments[..nfree - 1] == self.gaps()
+            && self.is_final(segments[nfree - 1])
+    }
+
+    /// The first and last byte of each gap.
+    fn gaps(&self) -> Vec<(usize, usize)> {
+        let after = |i: usize| self.partition.get(i + 1).map_or(self.file.len(), |&(at, _)| at);
+        let gaps = self.partition.iter().enumerate().filter(|(_, (_, is_record))| !is_record);
+        gaps.map(|(i, &(at, _))| (at, after(i) - 1)).collect()
+    }
+
+    fn is_final(&self, (first, last): (usize, usize)) -> bool {
+        let end = self.file.len();
+        first == end && if self.header.wide { last > end } else { last == 2_000_000_000 }
     }
 
     fn info_holds(&self) -> bool {
-        let (seek_info, nbytes_info) = (self.field(37), self.field(41));
+        let Header { seek_info, nbytes_info, .. } = self.header;
         let is_info =
             |key: Key| key.plain && key.nbytes == nbytes_info && key.class == b"TList" && key.name == b"StreamerInfo";
         (seek_info, nbytes_info) == (0, 0) || self.record(seek_info).is_some_and(is_info)
@@ -223,7 +274,7 @@ impl<'a> Rules<'a> {
                 return None;
             }
             let (part, owner) = roles.first().copied().unwrap_or((part::UNLISTED, 0));
-            rows.push(Row { start: at as u32, part, owner: owner as u32 });
+            rows.push(Row { start: at as u64, part, owner: owner as u64 });
         }
         let is_set = rows.iter().all(|row| {
             let is_directory = row.part == part::HEAD || row.part == part::DIR;
@@ -235,7 +286,7 @@ impl<'a> Rules<'a> {
     }
 
     /// Each part and owner that the piece at `at` has. None if a list or a copy breaks its rule.
-    fn roles(&self, at: usize, is_record: bool, set: &[usize]) -> Option<Vec<(u32, usize)>> {
+    fn roles(&self, at: usize, is_record: bool, set: &[usize]) -> Option<Vec<(u64, usize)>> {
         let mut roles = Vec::new();
         if !is_record {
             roles.push((part::GAP, 0));
@@ -243,10 +294,10 @@ impl<'a> Rules<'a> {
         if at == 100 {
             roles.push((part::HEAD, 0));
         }
-        if at == self.field(16) {
+        if at == self.header.seek_free {
             roles.push((part::FREE, 0));
         }
-        if at == self.field(37) {
+        if at == self.header.seek_info {
             roles.push((part::INFO, 0));
         }
         for &owner in set {
@@ -302,10 +353,6 @@ impl<'a> Rules<'a> {
             && directory.seek_parent == row.owner as usize
             && directory.nbytes_name == key.keylen
     }
-}
-
-fn pair(first: usize, last: usize) -> Vec<u8> {
-    [first as u32, last as u32].map(u32::to_be_bytes).concat()
 }
 
 fn is_listed(row: &Row) -> bool {

@@ -21,7 +21,7 @@ pub struct Piece {
     pub size: u64,
     /// Its index in `KINDS`.
     pub kind: usize,
-    pub owner: u32,
+    pub owner: u64,
 }
 
 impl Piece {
@@ -44,11 +44,13 @@ pub struct Key<'a> {
 
 /// The rows of a pass.
 pub fn of_pass(tables: &Tables) -> impl Iterator<Item = Piece> + '_ {
-    let ends = tables.start.iter().skip(1).map(|&next| u64::from(next)).chain([tables.end as u64]);
+    let ends = tables.start.iter().copied().skip(1).chain([tables.end as u64]);
     let columns = tables.start.iter().zip(ends).zip(&tables.part).zip(&tables.owner);
-    columns.map(|(((&start, end), &part), &owner)| {
-        let start = u64::from(start);
-        Piece { start, size: end.saturating_sub(start), kind: part as usize, owner }
+    columns.map(|(((&start, end), &part), &owner)| Piece {
+        start,
+        size: end.saturating_sub(start),
+        kind: usize::try_from(part).unwrap_or(usize::MAX),
+        owner,
     })
 }
 

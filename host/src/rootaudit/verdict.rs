@@ -1,7 +1,8 @@
 //! The audit of one file, with tables of the size that it needs.
 
+use super::pieces::BEGIN;
 use super::{Audit, FAILED, PASSED, REFUSED};
-use crate::ffi::{number, Answer};
+use crate::ffi::{number, part, Answer};
 
 /// What became of a file.
 #[derive(Debug, PartialEq, Eq)]
@@ -26,9 +27,9 @@ impl Verdict {
 /// Three tables of one length, and where the file ends.
 #[derive(Debug, PartialEq, Eq)]
 pub struct Tables {
-    pub start: Vec<u32>,
-    pub part: Vec<u32>,
-    pub owner: Vec<u32>,
+    pub start: Vec<u64>,
+    pub part: Vec<u64>,
+    pub owner: Vec<u64>,
     pub end: usize,
 }
 
@@ -38,27 +39,30 @@ impl Tables {
         Some(Tables { start: zeros(room)?, part: zeros(room)?, owner: zeros(room)?, end })
     }
 
-    fn lent(&mut self) -> [&mut [u32]; 3] {
+    fn lent(&mut self) -> [&mut [u64]; 3] {
         [&mut self.start, &mut self.part, &mut self.owner]
     }
 
-    /// The first rows alone.
-    fn take(mut self, rows: usize) -> Self {
+    /// The first rows alone, if a pass can have them: every part is one, and the starts rise from 100 to below END.
+    fn take(mut self, rows: usize) -> Option<Self> {
         for table in [&mut self.start, &mut self.part, &mut self.owner] {
             table.truncate(rows);
         }
-        self
+        let lie_within = self.start.first() == Some(&BEGIN) && self.start.last() < Some(&(self.end as u64));
+        let rise = self.start.windows(2).all(|pair| pair[0] < pair[1]);
+        let are_parts = self.part.iter().all(|&part| part < part::NAMES.len() as u64);
+        (lie_within && rise && are_parts).then_some(self)
     }
 }
 
-fn zeros(len: usize) -> Option<Vec<u32>> {
+fn zeros(len: usize) -> Option<Vec<u64>> {
     let mut table = Vec::new();
     table.try_reserve_exact(len).ok()?;
     table.resize(len, 0);
     Some(table)
 }
 
-/// Rows to begin with: one for each kilobyte, which is more than most files need, but at most 2^20, 12 MB
+/// Rows to begin with: one for each kilobyte, which is more than most files need, but at most 2^20, 24 MiB
 /// of tables, since an audit clears all that it is lent.
 pub fn first_room(len: usize) -> usize {
     (len / 1024).clamp(1 << 10, 1 << 20)
@@ -106,7 +110,10 @@ fn attempt(file: &[u8], room: usize, audit: Audit) -> Attempt {
     let answer = audit(file, tables.lent());
     Attempt::Decided(match answer.number {
         number::UNFINISHED => return Attempt::Unfinished(answer.count),
-        0 if (1..=room as u64).contains(&answer.count) => Verdict::Passed(tables.take(answer.count as usize)),
+        0 if (1..=room as u64).contains(&answer.count) => tables.take(answer.count as usize).map_or_else(
+            || Verdict::Failed("not audited: the library answered rows of no file".into()),
+            Verdict::Passed,
+        ),
         number::SHORT..=number::TWICE => Verdict::Refused(answer),
         _ => Verdict::Failed(format!("not audited: the library answered {answer:?}")),
     })

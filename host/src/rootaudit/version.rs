@@ -1,7 +1,7 @@
 //! What the program was made of. The build script asks for commit and toolchain.
 
 /// The requests to document 01 that are in; each changes verdicts.
-const REQUESTS: &str = "01";
+const REQUESTS: &str = "01, 02";
 
 pub fn text() -> String {
     format!(

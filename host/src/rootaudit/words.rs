@@ -5,9 +5,9 @@ use super::pieces::{self, Piece};
 use super::verdict::Verdict;
 use crate::ffi::{number, Answer};
 use crate::model::bytes::Cursor;
+use crate::model::width;
 use std::ffi::OsStr;
 use std::io::{self, Write};
-use std::ops::RangeInclusive;
 
 /// A file's name on one line.
 pub fn name(path: &OsStr) -> String {
@@ -34,7 +34,6 @@ pub fn said(verdict: &Verdict, file: &[u8]) -> String {
 /// What to do next.
 pub const AGAIN: &str = "copy it again; if that is refused too, keep both and call an analyst";
 pub const LOOK: &str = "see what it is; if it should be a ROOT file, copy it again, and keep both";
-pub const KEEP: &str = "keep it: such files are not read yet, so nothing is known of it";
 pub const WAIT: &str = "if the recorder still writes it, wait; else copy it again, and keep both";
 
 /// A refusal in words: what is wrong, and what to do next. "Here" is the place that stands before them.
@@ -42,10 +41,10 @@ pub fn refusal(answer: &Answer, file: &[u8]) -> (String, &'static str) {
     let (what, next) = match answer.number {
         number::SHORT => ("shorter than the header of a ROOT file, 100 bytes", AGAIN),
         number::MAGIC => ("no ROOT file: it does not begin with \"root\"", LOOK),
-        number::WIDE => ("its header is of the large kind, with eight-byte offsets, or damaged", KEEP),
+        number::WIDE => ("Version and Units in its header disagree", AGAIN),
         number::BOUNDS => return (bounds(file), WAIT),
         number::CHAIN => ("no record and no gap of a possible size stands here", AGAIN),
-        number::KEY => return key(file, answer.place),
+        number::KEY => ("the record here has a damaged key, or says that it stands elsewhere", AGAIN),
         number::HEAD => ("the record of the file itself, which stands here, is damaged", AGAIN),
         number::FREE => {
             ("the list of free space, which should stand here, is damaged or is not that of the gaps", AGAIN)
@@ -62,9 +61,10 @@ pub fn refusal(answer: &Answer, file: &[u8]) -> (String, &'static str) {
     (what.into(), next)
 }
 
-/// END of the file header.
+/// END of the file header, in as many bytes as its Version says.
 pub fn end_of(file: &[u8]) -> Option<u64> {
-    Cursor::new(file, 12).u32().map(u64::from)
+    let version = Cursor::new(file, 4).u32()?;
+    Cursor::new(file, 12).offset(width::of_file(version))
 }
 
 /// What is wrong with the bounds in the file header.
@@ -76,21 +76,7 @@ fn bounds(file: &[u8]) -> String {
     } else if begin != pieces::BEGIN {
         format!("its header says that its records begin at byte {}, and not at 100", grouped(begin))
     } else {
-        format!("it has {} bytes, and at most 1,999,999,999 are read yet", grouped(len))
-    }
-}
-
-/// Versions of a key with eight-byte offsets.
-const WIDE_KEYS: RangeInclusive<u16> = 1001..=2000;
-
-/// What is wrong with the key at a place, by its version.
-fn key(file: &[u8], place: u64) -> (String, &'static str) {
-    // The place is that of a piece, so it lies in the file.
-    match Cursor::new(file, (place as usize).saturating_add(4)).u16() {
-        Some(version) if WIDE_KEYS.contains(&version) => {
-            (format!("the record here has a key of version {version}, with eight-byte offsets, or a damaged one"), KEEP)
-        }
-        _ => ("the record here has a damaged key, or says that it stands elsewhere".into(), AGAIN),
+        format!("it has {} bytes, and a file with four-byte offsets has at most 1,999,999,999", grouped(len))
     }
 }
 

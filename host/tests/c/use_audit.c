@@ -1,4 +1,4 @@
-/* Audits one.root from C, and checks what is answered and written. */
+/* Audits one.root from C, with four-byte and with eight-byte offsets, and checks what is answered and written. */
 #include "rootmap.h"
 
 #include <stdio.h>
@@ -7,8 +7,11 @@
 #define ROOM 8
 
 static int failed = 0;
-static uint8_t file[364];
-static uint32_t tables[3][ROOM];
+static uint8_t file[432];
+static size_t end;
+/* The bytes of an offset. */
+static size_t width;
+static uint64_t tables[3][ROOM];
 static uint64_t place, count;
 
 static void check(int good, const char *what)
@@ -19,84 +22,123 @@ static void check(int good, const char *what)
     }
 }
 
-static void number(size_t at, uint32_t value)
+static void bytes(size_t at, uint64_t value, size_t len)
 {
-    int i;
-    for (i = 3; i >= 0; i--) {
-        file[at + i] = (uint8_t)value;
+    while (len-- > 0) {
+        file[at + len] = (uint8_t)value;
         value >>= 8;
     }
 }
 
-static void numbers(size_t at, const uint32_t *values, size_t how_many)
+static void number(size_t at, uint32_t value)
 {
-    size_t i;
-    for (i = 0; i < how_many; i++)
-        number(at + 4 * i, values[i]);
+    bytes(at, value, 4);
+}
+
+static void offset(size_t at, uint64_t value)
+{
+    bytes(at, value, width);
+}
+
+/* The version of what has offsets of this width. */
+static uint32_t version(uint32_t narrow)
+{
+    return width == 8 ? narrow + 1000 : narrow;
 }
 
 static void key(uint32_t at, uint32_t nbytes, uint32_t pdir, const char *class_name, const char *name)
 {
     size_t class_len = strlen(class_name), name_len = strlen(name);
-    uint32_t objlen = nbytes - 29 - (uint32_t)(class_len + name_len);
-    check(rootmap_write_key(nbytes, 4, objlen, 1960757165, 1, at, pdir, (const uint8_t *)class_name, class_len,
-                            (const uint8_t *)name, name_len, (const uint8_t *)"", 0, file, sizeof file, &place,
-                            &count) == 0,
+    uint32_t objlen = nbytes - 21 - (uint32_t)(2 * width + class_len + name_len);
+    check(rootmap_write_key(nbytes, version(4), objlen, 1960757165, 1, at, pdir, (const uint8_t *)class_name, class_len,
+                            (const uint8_t *)name, name_len, (const uint8_t *)"", 0, file, end, &place, &count) == 0,
           name);
 }
 
-/* Head, object "x", keys list, a gap of 12 bytes and free list. */
-static void one_root(void)
+/* END, SeekFree, NbytesFree, nfree, NbytesName, Units, Compress. */
+static void header(uint32_t file_version, const uint32_t *starts)
 {
-    static const uint32_t header[7] = {62400, 100, 364, 309, 55, 2, 38};
-    static const uint32_t directory[7] = {1960757165, 1960757165, 79, 38, 100, 0, 218};
+    memset(file, 0, sizeof file);
     memcpy(file, "root", 4);
-    numbers(4, header, 7);
-    file[32] = 4;
-    number(33, 1);
-    key(100, 68, 0, "TFile", "a");
-    memcpy(file + 135, "\1a\0\0\5", 5);
-    numbers(140, directory, 7);
-    key(168, 50, 100, "TObjString", "x");
-    key(218, 79, 100, "TFile", "a");
-    number(253, 1);
-    memcpy(file + 257, file + 168, 40);
-    number(297, (uint32_t)-12);
-    key(309, 55, 100, "TFile", "a");
-    file[345] = file[355] = 1;
-    number(346, 297);
-    number(350, 308);
-    number(356, 364);
-    number(360, 2000000000);
+    number(4, file_version);
+    number(8, 100);
+    offset(12, end);
+    offset(12 + width, starts[4]);
+    number(12 + 2 * width, (uint32_t)end - starts[4]);
+    number(16 + 2 * width, 2);
+    number(20 + 2 * width, (uint32_t)(30 + 2 * width));
+    bytes(24 + 2 * width, width, 1);
+    number(25 + 2 * width, 1);
+}
+
+/* The head's name and title, and the directory header. */
+static void directory(size_t at, const uint32_t *starts)
+{
+    memcpy(file + at, "\1a\0", 3);
+    bytes(at + 3, version(5), 2);
+    number(at + 5, 1960757165);
+    number(at + 9, 1960757165);
+    number(at + 13, starts[3] - starts[2]);
+    number(at + 17, (uint32_t)(30 + 2 * width));
+    offset(at + 21, 100);
+    offset(at + 21 + 2 * width, starts[2]);
+}
+
+static void segment(size_t at, uint64_t first, uint64_t last)
+{
+    bytes(at, version(1), 2);
+    offset(at + 2, first);
+    offset(at + 2 + width, last);
+}
+
+/* Head, object "x", keys list, a gap of 12 bytes and free list: where they start. */
+static void one_root(uint32_t file_version, const uint32_t *starts, uint64_t last)
+{
+    /* The sum of a key of class TFile, named "a". */
+    size_t sum = 27 + 2 * width;
+    header(file_version, starts);
+    key(100, starts[1] - 100, 0, "TFile", "a");
+    directory(100 + sum, starts);
+    key(starts[1], starts[2] - starts[1], 100, "TObjString", "x");
+    key(starts[2], starts[3] - starts[2], 100, "TFile", "a");
+    number(starts[2] + sum, 1);
+    memcpy(file + starts[2] + sum + 4, file + starts[1], sum + 5);
+    number(starts[3], (uint32_t)-12);
+    key(starts[4], (uint32_t)end - starts[4], 100, "TFile", "a");
+    segment(starts[4] + sum, starts[3], starts[4] - 1);
+    segment(starts[4] + sum + 2 + 2 * width, end, last);
 }
 
 static uint64_t audit(size_t start_len, size_t part_len, size_t owner_len)
 {
     memset(tables, 0x5a, sizeof tables);
     place = count = 9;
-    return rootmap_audit(file, sizeof file, tables[0], start_len, tables[1], part_len, tables[2], owner_len, &place,
+    return rootmap_audit(file, end, tables[0], start_len, tables[1], part_len, tables[2], owner_len, &place,
                          &count);
 }
 
 /* Whether a table of `len` rows holds `rows`, then zeros, and what follows it is untouched. */
-static int holds(const uint32_t *table, size_t len, const uint32_t *rows, size_t row_count)
+static int holds(const uint64_t *table, size_t len, const uint64_t *rows, size_t row_count)
 {
     size_t i;
     for (i = 0; i < ROOM; i++) {
-        uint32_t expected = i >= len ? 0x5a5a5a5a : i < row_count ? rows[i] : 0;
+        uint64_t expected = i >= len ? 0x5a5a5a5a5a5a5a5a : i < row_count ? rows[i] : 0;
         if (table[i] != expected)
             return 0;
     }
     return 1;
 }
 
-int main(void)
+/* The file passes with these rows, needs five of them, and is 9 with the byte after its gap. */
+static void rows(const uint32_t *starts)
 {
-    static const uint32_t start[5] = {100, 168, 218, 297, 309};
-    static const uint32_t part[5] = {1, 5, 4, 0, 2};
-    static const uint32_t owner[5] = {0, 100, 100, 0, 0};
+    static const uint64_t part[5] = {1, 5, 4, 0, 2};
+    static const uint64_t owner[5] = {0, 100, 100, 0, 0};
+    uint64_t start[5];
+    size_t i;
 
-    one_root();
+    for (i = 0; i < 5; i++)
+        start[i] = starts[i];
     check(audit(5, 7, 6) == 0 && place == 0 && count == 5, "one.root passes");
     check(holds(tables[0], 5, start, 5) && holds(tables[1], 7, part, 5) && holds(tables[2], 6, owner, 5), "its rows");
 
@@ -104,10 +146,29 @@ int main(void)
     check(holds(tables[0], 8, start, 0) && holds(tables[1], 4, part, 0) && holds(tables[2], 5, owner, 0),
           "zeros after 7");
 
-    number(350, 309);
-    check(audit(5, 5, 5) == 9 && place == 309 && count == 0, "segment 297 to 309 is 9");
+    offset(starts[4] + 29 + 3 * width, starts[4]);
+    check(audit(5, 5, 5) == 9 && place == starts[4] && count == 0, "the byte after the gap is 9");
     check(holds(tables[0], 5, start, 0) && holds(tables[1], 5, part, 0) && holds(tables[2], 5, owner, 0),
           "zeros after 9");
+}
+
+int main(void)
+{
+    static const uint32_t narrow[5] = {100, 168, 218, 297, 309};
+    static const uint32_t wide[5] = {100, 188, 246, 341, 353};
+
+    end = 364;
+    width = 4;
+    one_root(62400, narrow, 2000000000);
+    rows(narrow);
+
+    end = 432;
+    width = 8;
+    one_root(1062400, wide, UINT64_MAX);
+    rows(wide);
+    /* SeekFree past 32 bits is the place of 9. */
+    offset(20, UINT64_MAX);
+    check(audit(5, 5, 5) == 9 && place == UINT64_MAX && count == 0, "the place of 9 is SeekFree");
     if (failed)
         return 1;
     printf("all checks passed\n");

@@ -4,6 +4,9 @@
 #include <stdio.h>
 #include <string.h>
 
+/* An offset past 32 bits. */
+#define FAR UINT64_C(0x100000005)
+
 static int failed = 0;
 
 static void check(int good, const char *what)
@@ -31,13 +34,13 @@ static void dates(void)
     check(place == 0 && count == 0, "place and count of 18");
 }
 
-/* Writes the key of the object "x" at 100, 40 bytes, in a record of 50. */
-static uint64_t write_x(uint32_t version, size_t name_len, uint8_t *buf, size_t buf_len, uint64_t *place,
-                        uint64_t *count)
+/* Writes the key of the object "x" at 100, 40 bytes or, of a version above 1000, 48, in a record of 50. */
+static uint64_t write_x(uint32_t version, uint64_t seek_pdir, size_t name_len, uint8_t *buf, size_t buf_len,
+                        uint64_t *place, uint64_t *count)
 {
     static const uint8_t name[255] = {'x'};
     *place = *count = 9;
-    return rootmap_write_key(50, version, 10, 1960757165, -2, 100, 100, (const uint8_t *)"TObjString", 10, name,
+    return rootmap_write_key(50, version, 10, 1960757165, -2, 100, seek_pdir, (const uint8_t *)"TObjString", 10, name,
                              name_len, (const uint8_t *)"", 0, buf, buf_len, place, count);
 }
 
@@ -53,13 +56,17 @@ static void write_and_read(void)
 
     memset(buf, 0x5a, sizeof buf);
     memset(expected, 0x5a, sizeof expected);
-    check(write_x(4, 255, buf, sizeof buf, &place, &count) == 15 && place == 0 && count == 0, "a long name is 15");
-    check(write_x(1001, 1, buf, sizeof buf, &place, &count) == 16 && place == 0 && count == 0, "version 1001 is 16");
-    check(write_x(4, 1, buf, 149, &place, &count) == 17 && place == 0 && count == 0, "a short buffer is 17");
+    check(write_x(4, 100, 255, buf, sizeof buf, &place, &count) == 15 && place == 0 && count == 0,
+          "a long name is 15");
+    check(write_x(2001, 100, 1, buf, sizeof buf, &place, &count) == 16 && place == 0 && count == 0,
+          "version 2001 is 16");
+    check(write_x(4, FAR, 1, buf, sizeof buf, &place, &count) == 16 && place == 0 && count == 0,
+          "an offset past 32 bits is 16 in a narrow key");
+    check(write_x(4, 100, 1, buf, 149, &place, &count) == 17 && place == 0 && count == 0, "a short buffer is 17");
     check(memcmp(buf, expected, sizeof buf) == 0, "refusals write nothing");
 
     memcpy(expected + 100, header, sizeof header);
-    check(write_x(4, 1, buf, sizeof buf, &place, &count) == 0 && place == 0 && count == 40, "the key is written");
+    check(write_x(4, 100, 1, buf, sizeof buf, &place, &count) == 0 && place == 0 && count == 40, "the key is written");
     check(memcmp(buf, expected, sizeof buf) == 0, "its bytes and no others");
 
     memset(fields, 0x5a, sizeof fields);
@@ -83,10 +90,31 @@ static void write_and_read(void)
     check(place == UINT64_MAX && count == 0, "its place");
 }
 
+/* The same with eight-byte offsets, one of them past 32 bits. */
+static void write_and_read_wide(void)
+{
+    static const uint8_t header[48] = {
+        0, 0, 0, 50, 3, 0xec, 0, 0, 0, 10, 0x74, 0xde, 0xc7, 0xad, 0, 48, 0xff, 0xfe, 0, 0, 0, 0, 0, 0,
+        0, 100, 0, 0, 0, 1, 0, 0, 0, 5, 10, 'T', 'O', 'b', 'j', 'S', 't', 'r', 'i', 'n', 'g', 1, 'x', 0};
+    static const uint64_t record[15] = {1, 50, 1004, 10, 1960757165, 48, 65534, 100, FAR, 135, 10, 146, 1, 148, 0};
+    uint8_t buf[150], expected[150];
+    uint64_t fields[15], place, count;
+
+    memset(buf, 0x5a, sizeof buf);
+    memset(expected, 0x5a, sizeof expected);
+    memcpy(expected + 100, header, sizeof header);
+    check(write_x(1004, FAR, 1, buf, sizeof buf, &place, &count) == 0 && place == 0 && count == 48,
+          "the wide key is written");
+    check(memcmp(buf, expected, sizeof buf) == 0, "the wide key's bytes and no others");
+    check(rootmap_read_piece(buf, sizeof buf, 100, fields, &place, &count) == 0, "the wide record is read");
+    check(place == 0 && count == 50 && memcmp(fields, record, sizeof fields) == 0, "the wide record's fields");
+}
+
 int main(void)
 {
     dates();
     write_and_read();
+    write_and_read_wide();
     if (failed)
         return 1;
     printf("all checks passed\n");

@@ -1,9 +1,8 @@
-use native.Mathlib.Omega.{arith}
 use mathlib.Core.Path.{_∙_, sym}
 use denote.Ref.{now}
 use lib.Seq.{length-take-le}
 use Rattle.rules.proofs.Chains.{opened-long}
-use Rattle.audit.proofs.Verdicts.{header-refused, chain-refused, Entire, entire, entire-kept, Fits, entire-fits, entire-seven}
+use Rattle.audit.proofs.Verdicts.{header-refused, chain-refused, Entire, entire, entire-room, Fits, entire-fits, entire-seven}
 use Rattle.audit.proofs.Verdicts.{entire-tables, entire-stops, entire-passes}
 use borrow.Author.Needs.{needs}
 use Rattle.audit.proofs.examine.Statement.{statement}
@@ -20,7 +19,8 @@ whole c =
     let c5 = c .before .before .before .before .before in
     let c8 = c5 .before .before .before in
     let c10 = c8 .before .before in
-    entire _ _ _ (sym (c8 .h .given .1) ∙ c10 .«open» .ensures .is) (c .before .n .given .1) (c5 .walk .ensures)
+    let o = sym (c8 .h .given .1) ∙ c10 .«open» .ensures .is in
+    entire _ _ _ o (c .before .n .given .1) (c5 .walk .ensures .long (opened-long _ (sym o)))
 
 room : (c : tie.Else1) →
     let c4 = c .before .before .before .before in
@@ -39,7 +39,7 @@ returns : tie.Need-returns
 returns c = header-refused _ _ _ _ _ (sym (c .before .before .c .given .1) ∙ c .before .before .before .before .«open» .ensures .is) (c .refused .ensures)
 
 walk-requires : tie.Need-walk-requires
-walk-requires c κs = opened-long _ (sym (c .before .before .before .before .«open» .ensures .is) ∙ c .before .before .h .given .1)
+walk-requires c κs = search needs
 
 refused-requires-2 : tie.Need-refused-requires-2
 refused-requires-2 c κs = search needs
@@ -49,8 +49,8 @@ returns-2 c =
     let c6 = c .before .before .before .before .before .before in
     let c9 = c6 .before .before .before in
     let c11 = c9 .before .before in
-    chain-refused _ _ _ _ _ _ (sym (c9 .h .given .1) ∙ c11 .«open» .ensures .is) (c .before .before .c2 .given .1)
-    (c6 .walk .ensures) (c .refused2 .ensures)
+    let o = sym (c9 .h .given .1) ∙ c11 .«open» .ensures .is in
+    chain-refused _ _ _ _ _ _ o (c .before .before .c2 .given .1) (c6 .walk .ensures .long (opened-long _ (sym o))) (c .refused2 .ensures)
 
 least-requires : tie.Need-least-requires
 least-requires c κs = search needs
@@ -66,10 +66,10 @@ returns-3 c =
     entire-seven (whole c3) (now (a .part)) (now (a .owner)) (c .before .least2 .ensures) (c .before .before .least .ensures) _ _ (c .if1 .taken)
 
 slice-reshare-prefix-survey : tie.Need-slice-reshare-prefix-survey
-slice-reshare-prefix-survey c = omega (arith, room c .starts, entire-kept (whole (c .before .before .before)))
+slice-reshare-prefix-survey c = entire-room (whole (c .before .before .before)) (room c)
 
 slice-aggregate-survey : tie.Need-slice-aggregate-survey
-slice-aggregate-survey c = sym (length-take-le _ _ (omega (arith, room (c .before) .starts, entire-kept (whole (c .before .before .before .before)))))
+slice-aggregate-survey c = sym (length-take-le _ _ (entire-room (whole (c .before .before .before .before)) (room (c .before))))
 
 slice-relend-prefix-survey : tie.Need-slice-relend-prefix-survey
 slice-relend-prefix-survey c = room (c .before) .parts

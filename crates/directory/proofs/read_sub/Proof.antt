@@ -93,4 +93,4 @@ read-sub-spec =
     tie.close
     (tie.spec
     (search needs) (search needs) returns (search needs) returns-2 (search needs) add-read-dir (search needs) add-read-dir-2
-    (search needs) (search needs) (search needs) returns-3 (search needs) returns-4 (search needs) returns-5 returns-6 returns-7)
+    (search needs) (search needs) (search needs) returns-3 returns-4 returns-5 returns-6 returns-7)

@@ -24,7 +24,7 @@ returns-3 c = sym (not-all (plain (c .before .before .before .before .before .be
 returns-4 : tie.Need-returns-4
 unfolding textSize
 returns-4 c =
-    let k = c .before .before .before .before .before .before .before .args .k in
+    let k = c .before .before .before .before .before .before .before .before .args .k in
     ap (eqb (k .keylen)) (omega arith) ∙ one-eq (k .keylen) (sumOf k)
 
 pub is-plain-spec : {M : Type 1} → statement M
@@ -34,11 +34,4 @@ is-plain-spec =
     returns
     returns-2
     returns-3
-    (search needs)
-    (search needs)
-    (search needs)
-    (search needs)
-    (search needs)
-    (search needs)
-    (search needs)
-    returns-4)
+    (search needs) (search needs) (search needs) (search needs) (search needs) (search needs) (search needs) (search needs) returns-4)

@@ -16,10 +16,10 @@ loop-holds : tie.Need-loop-holds Inv-loop μ-loop
 loop-holds c = began _ _ _
 
 loop-again : tie.Need-loop-again Inv-loop μ-loop
-loop-again c = go-up (c .before .before .before .before .before .loop .inv) _ (omega arith) (omega arith) (omega arith)
+loop-again c = go-up (c .before .before .before .before .loop .inv) _ (omega arith) (omega arith) (omega arith)
 
 loop-again-2 : tie.Need-loop-again-2 Inv-loop μ-loop
-loop-again-2 c = go-down (c .before .before .before .before .before .loop .inv) _ (omega arith) (omega arith) (omega arith) (λ e. omega arith)
+loop-again-2 c = go-down (c .before .before .before .before .loop .inv) _ (omega arith) (omega arith) (omega arith) (λ e. omega arith)
 
 returns-2 : tie.Need-returns-2 Inv-loop μ-loop
 returns-2 c = none (c .before .loop .inv) (omega arith)
@@ -29,4 +29,4 @@ find-row-spec =
     tie.close
     (tie.spec
     Inv-loop μ-loop loop-holds (search needs) (search needs) (search needs) (search needs) (search needs) (search needs)
-    (search needs) (search needs) loop-again (search needs) loop-again-2 returns-2)
+    (search needs) loop-again (search needs) loop-again-2 returns-2)

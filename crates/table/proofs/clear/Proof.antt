@@ -12,27 +12,21 @@ Inv-loop table₀ from i₀ table i = Clearing table₀ table from i
 abbrev μ-loop : tie.MeasureT-loop
 μ-loop table₀ from i₀ table i = length table₀ - i
 
--- src/lib.rt:19:9
 returns : tie.Need-returns Inv-loop μ-loop
 returns c = clear-none _ _ (c .if1 .taken)
 
--- src/lib.rt:22:5
 loop-holds : tie.Need-loop-holds Inv-loop μ-loop
 loop-holds c = clear-began _ _ (omega arith)
 
--- src/lib.rt:22:5
 loop-less : tie.Need-loop-less Inv-loop μ-loop
 loop-less c = let k = clear-kept (c .before .loop .inv) in omega arith
 
--- src/lib.rt:22:5
 loop-again : tie.Need-loop-again Inv-loop μ-loop
 loop-again c = clear-again (c .before .loop .inv) (c .loop-test .taken)
 
--- src/lib.rt:15:1
 same-length : tie.Need-same-length Inv-loop μ-loop
 same-length c = clear-kept (c .before .loop .inv)
 
--- src/lib.rt:15:1
 returns-2 : tie.Need-returns-2 Inv-loop μ-loop
 returns-2 c = clear-ended (c .before .loop .inv) (c .loop-test .left)
 

@@ -6,7 +6,7 @@ use Rattle.wire.specs.Number.{bitsOf}
 use Rattle.wire.proofs.Layouts.{length-values}
 use Rattle.wire.proofs.Patches.{part-then}
 use Rattle.key.specs.Header.{keyLayout}
-use Rattle.key.specs.Writer.{numbersOf, nameBytes}
+use Rattle.key.specs.Writer.{sumBytes, numbersOf, nameBytes, headerBytes}
 use Rattle.key.proofs.Writes.{length-names}
 use borrow.Author.Needs.{needs}
 use Rattle.writer.proofs.put_header.Statement.{statement}
@@ -16,20 +16,24 @@ put-names-requires : tie.Need-put-names-requires
 put-names-requires c κs = search needs
 
 returns : tie.Need-returns
+unfolding headerBytes
 returns c =
-    let d = c .before .before .before .before .before .before in
+    let d = c .before .before .before .before .before .before .before in
     let e = d .before .before .before .before .before .before in
     let a = e .before .before .before .before .before .before .args in
     let i : a .cycle ≡ bitsOf 2 (a .f .cycle) = e .before .before .before .before .before .before .pre .1 in
-    let k = length-values (keyLayout offsetWidth) (numbersOf (a .f) (a .keylen)) in
+    let n = e .before .before .before .before .before .before .pre .2 in
+    let sum = sumBytes (a .f .version) (now (a .class)) (now (a .name)) (now (a .title)) in
+    let w = e .before .width .ensures .0 in
+    let k = length-values (keyLayout (offsetWidth (a .f .version))) (numbersOf (a .f) sum) in
     let l = length-names (now (a .class)) (now (a .name)) (now (a .title)) in
-    part-then (now (a .part)) 0 (valueBytes (keyLayout offsetWidth) (numbersOf (a .f) (a .keylen)))
+    part-then (now (a .part)) 0 (valueBytes (keyLayout (offsetWidth (a .f .version))) (numbersOf (a .f) sum))
     (nameBytes (now (a .class)) (now (a .name)) (now (a .title))) _
-    (d .put-values .ensures ∙ rw i) (omega arith) (omega arith) (c .before .before .put-names .ensures)
+    (d .put-values .ensures ∙ rw (i, w, n)) (omega arith) (omega arith) (c .before .before .put-names .ensures)
 
 pub put-header-spec : {M : Type 1} → statement M
 put-header-spec =
     tie.close
     (tie.spec
     (search needs) (search needs) (search needs) (search needs) (search needs) (search needs) (search needs) (search needs)
-    (search needs) (search needs) put-names-requires (search needs) returns)
+    (search needs) (search needs) (search needs) (search needs) put-names-requires (search needs) returns)

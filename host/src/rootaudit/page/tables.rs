@@ -122,7 +122,7 @@ fn write_piece(out: &mut dyn Write, piece: &Piece, file: &[u8], class: &str) -> 
         Some(key) => (name_of(key.class), format!("{};{}", name_of(key.name), key.cycle)),
         None => Default::default(),
     };
-    let owner = if piece.owner == 0 { String::new() } else { grouped(piece.owner.into()) };
+    let owner = if piece.owner == 0 { String::new() } else { grouped(piece.owner) };
     writeln!(
         out,
         "<tr{class}><td class=\"n\">{}</td><td class=\"n\">{}</td><td>{}</td><td class=\"n\">{owner}</td>\

@@ -55,17 +55,17 @@ fn write_dir(out: &mut dyn Write, dir: &Dir, depth: usize, file: &[u8]) -> io::R
     )
 }
 
-fn is(piece: &Piece, part: u32) -> bool {
+fn is(piece: &Piece, part: u64) -> bool {
     piece.kind == part as usize
 }
 
 /// The directories in file order, each with what it lists.
 fn directories(pieces: &[Piece]) -> Vec<Dir> {
     let is_dir = |piece: &&Piece| is(piece, part::HEAD) || is(piece, part::DIR);
-    let dir = |piece: &Piece| Dir { start: piece.start, owner: piece.owner.into(), dirs: 0, records: 0, bytes: 0 };
+    let dir = |piece: &Piece| Dir { start: piece.start, owner: piece.owner, dirs: 0, records: 0, bytes: 0 };
     let mut dirs: Vec<Dir> = pieces.iter().filter(is_dir).map(dir).collect();
     for piece in pieces.iter().filter(|piece| is(piece, part::LISTED) || is(piece, part::DIR)) {
-        let Ok(owner) = dirs.binary_search_by_key(&u64::from(piece.owner), |dir| dir.start) else { continue };
+        let Ok(owner) = dirs.binary_search_by_key(&piece.owner, |dir| dir.start) else { continue };
         if is(piece, part::DIR) {
             dirs[owner].dirs += 1;
         } else {
@@ -83,8 +83,8 @@ fn depth_first(dirs: &[Dir]) -> Vec<(usize, usize)> {
     let mut children: Vec<usize> = (0..dirs.len()).collect();
     children.sort_by_key(|&index| dirs[index].owner);
     let of = |owner: u64| {
-        let [first, last] =
-            [owner, owner + 1].map(|least| children.partition_point(|&index| dirs[index].owner < least));
+        let first = children.partition_point(|&index| dirs[index].owner < owner);
+        let last = children.partition_point(|&index| dirs[index].owner <= owner);
         children[first..last].iter().rev().copied()
     };
     let mut order = Vec::new();

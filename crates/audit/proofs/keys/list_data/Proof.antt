@@ -12,8 +12,8 @@ room c = omega (arith, c .if1 .left, c .before .before .before .before .before .
 
 returns : tie.Need-returns
 returns c =
-    let c7 = c .before .before .before .before .before .before .before in
-    faulted _ _ _ _ _ (data-short _ _ _ _ _ _ _ _ _ (omega (arith, c .before .if1 .taken, c7 .pre)))
+    let c6 = c .before .before .before .before .before .before in
+    faulted _ _ _ _ _ (data-short _ _ _ _ _ _ _ _ _ (omega (arith, c .if1 .taken, c6 .pre)))
 
 be32-requires : tie.Need-be32-requires
 be32-requires c κs = search needs
@@ -33,12 +33,12 @@ returns-2 c =
 
 returns-3 : tie.Need-returns-3
 returns-3 c =
-    let c4 = c .before .before .before .before in
-    let c10 = c4 .before .before .before .before .before .before in
-    let c13 = c10 .before .before .before in
-    let c14 = c13 .before in
-    data-left _ _ _ _ _ _ _ _ _ (room c14) (c13 .be32 .ensures) _ _ _ (c10 .list-copies .ensures)
-    (c4 .r .given .1) (c .before .if2 .taken)
+    let c3 = c .before .before .before in
+    let c9 = c3 .before .before .before .before .before .before in
+    let c12 = c9 .before .before .before in
+    let c13 = c12 .before in
+    data-left _ _ _ _ _ _ _ _ _ (room c13) (c12 .be32 .ensures) _ _ _ (c9 .list-copies .ensures)
+    (c3 .r .given .1) (c .if2 .taken)
 
 returns-4 : tie.Need-returns-4
 returns-4 c =
@@ -53,6 +53,5 @@ pub list-data-spec : {M : Type 1} → statement M
 list-data-spec =
     tie.close
     (tie.spec
-    (search needs) (search needs) returns be32-requires (search needs) list-copies-requires (search needs) enum-told
-    (search needs) (search needs) returns-2 (search needs) (search needs) (search needs) returns-3 (search needs) (search needs)
-    returns-4)
+    (search needs) returns be32-requires (search needs) list-copies-requires (search needs) enum-told (search needs)
+    (search needs) returns-2 (search needs) (search needs) returns-3 (search needs) (search needs) returns-4)

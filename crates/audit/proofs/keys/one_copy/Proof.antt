@@ -1,8 +1,6 @@
 use native.Mathlib.Omega.{arith}
 use mathlib.Core.Path.{sym, _∙_}
-use denote.Ref.{now}
-use Rattle.audit.specs.Listing.{copyStep}
-use Rattle.audit.proofs.Listings.{copy-row, copy-gave, copy-stops}
+use Rattle.audit.proofs.Listings.{copy-gave, copy-stops}
 use borrow.Author.Needs.{needs}
 use Rattle.audit.proofs.keys.one_copy.Statement.{statement}
 use Rattle.audit.proofs.keys.one_copy.Tie as tie
@@ -15,11 +13,8 @@ assign-part-requires c κs =
     let c3 = c .before .before .before in
     let c5 = c3 .before .before in
     let c10 = c5 .before .before .before .before .before in
-    let a = c10 .args in
     let t = c10 .pre in
-    let l = copy-row (now (a .start)) (copyStep (now (a .file)) (now (a .start)) (a .list) (a .at)) (now (a .part)) (now (a .owner)) (now (a .part))
-    (now (a .owner)) (c5 .test-copy .ensures) (c3 .g .given .1) in
-    (omega (arith, l, t .parts), t .owners ∙ sym (t .parts))
+    (omega (arith, c5 .test-copy .ensures .row _ (c3 .g .given .1), t .parts), t .owners ∙ sym (t .parts))
 
 returns : tie.Need-returns
 returns c =
@@ -27,16 +22,13 @@ returns c =
     let c8 = c4 .before .before .before .before in
     let c10 = c8 .before .before in
     let c15 = c10 .before .before .before .before .before in
-    let a = c15 .args in
-    copy-gave (now (a .start)) (copyStep (now (a .file)) (now (a .start)) (a .list) (a .at)) _ _ _ _ (c10 .test-copy .ensures) _ (c8 .g .given .1)
-    (c4 .assign-part .ensures)
+    copy-gave (c10 .test-copy .ensures) (c15 .pre .rising) _ _ _ _ _ (c8 .g .given .1) (c4 .assign-part .ensures)
 
 returns-2 : tie.Need-returns-2
 returns-2 c =
     let c3 = c .before .before .before in
     let c8 = c3 .before .before .before .before .before in
-    let a = c8 .args in
-    copy-stops (now (a .start)) (copyStep (now (a .file)) (now (a .start)) (a .list) (a .at)) _ _ _ _ (c3 .test-copy .ensures) (c .before .c .given .1)
+    copy-stops (c3 .test-copy .ensures) (c8 .pre .rising) _ _ _ _ (c .before .c .given .1)
 
 pub one-copy-spec : {M : Type 1} → statement M
 one-copy-spec =

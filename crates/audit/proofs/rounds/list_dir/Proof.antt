@@ -5,8 +5,6 @@ use Rattle.audit.proofs.Turns.{dir-bad, dir-held}
 use borrow.Author.Needs.{needs}
 use Rattle.audit.proofs.rounds.list_dir.Statement.{statement}
 use Rattle.audit.proofs.rounds.list_dir.Tie as tie
-use Rattle.audit.proofs.keys.list_keys.Reads as list-keys-reads
-use Rattle.audit.proofs.rounds.read_dir.Reads as read-dir-reads
 
 read-dir-requires : tie.Need-read-dir-requires
 read-dir-requires c κs = search needs
@@ -14,16 +12,13 @@ read-dir-requires c κs = search needs
 enum-told : tie.Need-enum-told
 enum-told c = search needs
 
-long-requires : tie.Need-long-requires
-long-requires c κs = search needs
-
 returns : tie.Need-returns
 returns c =
-    let c3 = c .before .before .before in
-    let c10 = c3 .before .before .before .before .before .before .before in
-    let a = c10 .args in
-    faulted _ _ _ _ _ (dir-bad (now (a .file)) (a .head) (now (a .start)) (a .row) (now (a .part)) (now (a .owner)) (c .long .ensures .0)
-    (sym (c .before .enum-told .given .1) ∙ c3 .read-dir .ensures))
+    let c2 = c .before .before in
+    let c9 = c2 .before .before .before .before .before .before .before in
+    let a = c9 .args in
+    faulted _ _ _ _ _ (dir-bad (now (a .file)) (a .head) (now (a .start)) (a .row) (now (a .part)) (now (a .owner))
+    (sym (c .enum-told .given .1) ∙ c2 .read-dir .ensures))
 
 list-keys-requires : tie.Need-list-keys-requires
 list-keys-requires c κs = search needs
@@ -42,5 +37,5 @@ pub list-dir-spec : {M : Type 1} → statement M
 list-dir-spec =
     tie.close
     (tie.spec
-    (search needs) (search needs) (search needs) (search needs) read-dir-requires (search needs) enum-told long-requires returns
+    (search needs) (search needs) (search needs) (search needs) read-dir-requires (search needs) enum-told returns
     list-keys-requires (search needs) (search needs) returns-2)

@@ -4,8 +4,6 @@ use native.Mathlib.Omega.{arith}
 use borrow.Author.Needs.{needs}
 use Rattle.audit.proofs.rounds.list_dirs.Statement.{statement}
 use Rattle.audit.proofs.rounds.list_dirs.Tie as tie
-use Rattle.audit.proofs.rounds.next_row.Reads as next-row-reads
-use Rattle.audit.proofs.rounds.take_dir.Reads as take-dir-reads
 
 abbrev Inv-loop : tie.InvT-loop
 Inv-loop file start part₀ owner₀ head at₀ low₀ left₀ part owner at low left = Rounding file head start (length start) part₀ owner₀ left part owner at low

@@ -9,21 +9,12 @@ read-head-requires c κs = search needs
 returns : tie.Need-returns
 returns c = head-dir _ _ _ _ (c .before .if1 .taken) (c .read-head .ensures .is)
 
-long-requires : tie.Need-long-requires
-long-requires c κs = search needs
-
-long-requires-2 : tie.Need-long-requires-2
-long-requires-2 c κs = search needs
-
 read-sub-requires : tie.Need-read-sub-requires
 read-sub-requires c κs = search needs
 
 returns-2 : tie.Need-returns-2
-returns-2 c =
-    sub-dir _ _ _ _ (c .before .before .before .if1 .left) (c .before .before .long .ensures .0) (c .before .long2 .ensures .0)
-    (c .read-sub .ensures .is)
+returns-2 c = sub-dir _ _ _ _ (c .before .if1 .left) (c .read-sub .ensures .is)
 
 pub read-dir-spec : {M : Type 1} → statement M
 read-dir-spec =
-    tie.close
-    (tie.spec read-head-requires returns long-requires long-requires-2 read-sub-requires returns-2)
+    tie.close (tie.spec read-head-requires returns read-sub-requires returns-2)

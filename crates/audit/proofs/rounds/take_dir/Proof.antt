@@ -1,11 +1,10 @@
-use native.Mathlib.Omega.{arith}
 use mathlib.Core.Path.{refl}
+use lib.ListN.{length-set}
 use denote.Ref.{now}
 use Rattle.audit.proofs.Turns.{round-fault, round-done}
 use borrow.Author.Needs.{needs}
 use Rattle.audit.proofs.rounds.take_dir.Statement.{statement}
 use Rattle.audit.proofs.rounds.take_dir.Tie as tie
-use Rattle.audit.proofs.rounds.list_dir.Reads as list-dir-reads
 
 mul-mark : tie.Need-mul-mark
 mul-mark c = search needs
@@ -45,10 +44,9 @@ slice-write-part : tie.Need-slice-write-part
 slice-write-part c = search needs
 
 same-length-3 : tie.Need-same-length-3
-same-length-3 c = search needs
-
-same-length-4 : tie.Need-same-length-4
-same-length-4 c = search needs
+same-length-3 c =
+    let c8 = c .before .before .before .before .before .before .before .before in
+    rw length-set (c8 .list-dir .kept .1 .1 .0)
 
 returns-2 : tie.Need-returns-2
 returns-2 c =
@@ -57,43 +55,11 @@ returns-2 c =
     let a = c16 .args in
     let k = c8 .list-dir .kept in
     round-done (now (a .file)) (a .head) (now (a .start)) (a .row) (now (a .part)) (now (a .owner)) _ _ _ (c8 .list-dir .ensures)
-    (c .before .before .r .given .1) _ _ refl (c16 .pre .2) (omega (arith, c16 .pre .1, c16 .pre .0 .parts)) (k .1 .1 .0) (omega (arith, c .if1))
-    (omega arith)
-
-same-length-5 : tie.Need-same-length-5
-same-length-5 c = search needs
-
-same-length-6 : tie.Need-same-length-6
-same-length-6 c = search needs
-
-returns-3 : tie.Need-returns-3
-returns-3 c =
-    let c8 = c .before .before .before .before .before .before .before .before in
-    let c16 = c8 .before .before .before .before .before .before .before .before in
-    let a = c16 .args in
-    let k = c8 .list-dir .kept in
-    round-done (now (a .file)) (a .head) (now (a .start)) (a .row) (now (a .part)) (now (a .owner)) _ _ _ (c8 .list-dir .ensures)
-    (c .before .before .r .given .1) _ _ refl (c16 .pre .2) (omega (arith, c16 .pre .1, c16 .pre .0 .parts)) (k .1 .1 .0) (omega arith)
-    (omega (arith, c .if1))
+    (c .before .before .r .given .1) _ (c .least .ensures) refl (c16 .pre .2) (c16 .pre .0 .parts) (c16 .pre .1) (k .1 .1 .0)
 
 pub take-dir-spec : {M : Type 1} → statement M
 take-dir-spec =
     tie.close
     (tie.spec
-    mul-mark
-    slice-read-mark
-    list-dir-requires
-    enum-known-r
-    enum-told
-    same-length
-    same-length-2
-    returns
-    sub-part
-    mul-part
-    slice-write-part
-    same-length-3
-    same-length-4
-    returns-2
-    same-length-5
-    same-length-6
-    returns-3)
+    mul-mark slice-read-mark list-dir-requires enum-known-r enum-told same-length same-length-2 returns sub-part mul-part
+    slice-write-part (search needs) same-length-3 (search needs) returns-2)

@@ -45,19 +45,19 @@ check-free-requires c κs = search needs
 
 returns-2 : tie.Need-returns-2
 returns-2 c =
-    let c3 = c .before .before .before in
-    let c10 = c3 .before .before .before .before .before .before .before in
-    no-free _ _ _ _ _ (held c3) (c .before .before .check-free .ensures (c10 .pre .rising)) (c .before .if1 .taken)
+    let c2 = c .before .before in
+    let c9 = c2 .before .before .before .before .before .before .before in
+    no-free _ _ _ _ _ (held c2) (c .before .check-free .ensures (c9 .pre .rising)) (c .if1 .taken)
 
 check-info-requires : tie.Need-check-info-requires
 check-info-requires c κs = search needs
 
 returns-3 : tie.Need-returns-3
 returns-3 c =
-    let c3 = c .before .before .before in
-    let c5 = c3 .before .before in
-    let c12 = c5 .before .before .before .before .before .before .before in
-    no-info _ _ _ _ _ (held c5) (free c3) (c .before .before .check-info .ensures (c12 .pre .rising)) (c .before .if2 .taken)
+    let c2 = c .before .before in
+    let c4 = c2 .before .before in
+    let c11 = c4 .before .before .before .before .before .before .before in
+    no-info _ _ _ _ _ (held c4) (free c2) (c .before .check-info .ensures (c11 .pre .rising)) (c .if2 .taken)
 
 first-parts-requires : tie.Need-first-parts-requires
 first-parts-requires c κs = c .before .before .before .before .before .before .before .before .before .before .before .before .pre .parts
@@ -88,5 +88,5 @@ pub survey-spec : {M : Type 1} → statement M
 survey-spec =
     tie.close
     (tie.spec
-    read-head-requires enum-told (search needs) returns check-free-requires (search needs) returns-2 check-info-requires
-    (search needs) returns-3 first-parts-requires clear-requires list-dirs-requires (search needs) (search needs) returns-4)
+    read-head-requires enum-told (search needs) returns check-free-requires returns-2 check-info-requires returns-3
+    first-parts-requires clear-requires list-dirs-requires (search needs) (search needs) returns-4)

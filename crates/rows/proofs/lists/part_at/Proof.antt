@@ -1,4 +1,4 @@
-use Rattle.rows.proofs.Frees.{part-head, part-free, part-info, part-none, part-gap}
+use Rattle.rows.proofs.Parts.{part-head, part-free, part-info, part-none, part-gap}
 use borrow.Author.Needs.{needs}
 use Rattle.rows.proofs.lists.part_at.Statement.{statement}
 use Rattle.rows.proofs.lists.part_at.Tie as tie
@@ -14,17 +14,17 @@ returns-3 c = part-info _ _ _ (c .before .before .before .before .if1 .left) (c 
 
 returns-4 : tie.Need-returns-4
 returns-4 c =
-    let c3 = c .before .before .before in
-    let c5 = c3 .before .before in
-    let c7 = c5 .before .before in
-    part-none _ _ _ (c7 .if1 .left) (c5 .if2 .left) (c3 .if3 .left) (c .before .before .long .ensures .0) (c .before .gap-size .ensures .0) (c .if4 .taken)
+    let c2 = c .before .before in
+    let c4 = c2 .before .before in
+    let c6 = c4 .before .before in
+    part-none _ _ _ (c6 .if1 .left) (c4 .if2 .left) (c2 .if3 .left) (c .before .gap-size .ensures) (c .if4 .taken)
 
 returns-5 : tie.Need-returns-5
 returns-5 c =
-    let c3 = c .before .before .before in
-    let c5 = c3 .before .before in
-    let c7 = c5 .before .before in
-    part-gap _ _ _ (c7 .if1 .left) (c5 .if2 .left) (c3 .if3 .left) (c .before .before .long .ensures .0) (c .before .gap-size .ensures .0) (c .if4 .left)
+    let c2 = c .before .before in
+    let c4 = c2 .before .before in
+    let c6 = c4 .before .before in
+    part-gap _ _ _ (c6 .if1 .left) (c4 .if2 .left) (c2 .if3 .left) (c .before .gap-size .ensures) (c .if4 .left)
 
 pub part-at-spec : {M : Type 1} → statement M
-part-at-spec = tie.close (tie.spec returns returns-2 returns-3 (search needs) (search needs) returns-4 returns-5)
+part-at-spec = tie.close (tie.spec returns returns-2 returns-3 (search needs) returns-4 returns-5)
