@@ -31,7 +31,8 @@ pub worked : all examples ≡ true
 unfolding eqBytes widthOf beValue numAt beBytes signedOf bitsOf textSize textOf textAt textIn onText contentOf textBytes packed packAnswer keyAt
     namesIn headerIn sizeAt recordThere pieceAt pieceAnswer onRecord headerBytes nameBytes sameBytes named fileHead endFits openedAs
     dirAt dirIn keptIf headDirIn headIn dirOf dataIn freeIn listClass listIn copyIn segmentsAt segmentsEnd segmentVersion versionsFit
-    gaps lastFits listGaps freeHolds infoHolds chain ruled verdict starts rowOf listedMark copyTurn copies dataTurn keysIn keysTurn dirTurn roundTurn nextRow rounds firstPart
+    gaps lastFits listGaps freeHolds infoHolds chain ruled verdict starts rowOf listedMark copyTurn copies dataTurn keysIn keysTurn
+    dirTurn roundTurn nextRow rounds firstPart
     andThen fieldAt numbersAt endOf countAt counted versionedAt versioned endedAt textFieldAt unnamedAt zeroAt objectAt firstIn classIn
     classOf classNameAt newTag oldTag tagAt headAt headed namedAt withName detailsAt baseAt withFields counterAt ownAt memberAt flat times ends
     elementAt collectionAt sized arrayBody arrayAt classBody classAt wholeAt listAt recordAt infoAt infoAnswer infoTable

@@ -9,7 +9,7 @@ use Rattle.wire.specs.Check.{All}
 use Rattle.wire.specs.Layout.{widthOf}
 use Rattle.wire.specs.Number.{numAt}
 use Rattle.wire.proofs.Checks.{yes-all, not-all, false-true}
-use Rattle.fileheader.specs.File.{isWide, fileWidth, fileNumber, fileHead, longEnough, magic, units, endFits, bounds, openedAs}
+use Rattle.fileheader.specs.File.{isWide, fileWidth, fileNumber, fileHead, longEnough, magic, units, bounds, openedAs}
 use Rattle.fileheader.specs.declared.FileHead.{FileHead}
 use Rattle.fileheader.specs.declared.Opened.the-variants.{Good, Refused}
 

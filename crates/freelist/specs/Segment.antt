@@ -7,7 +7,6 @@ use Rattle.wire.specs.Check.{Check, le, eq, yes, all, pick}
 use Rattle.wire.specs.Layout.{valuesAt}
 use Rattle.wire.specs.Number.{numAt}
 use Rattle.rules.specs.Free.{segmentLayoutAt, segmentEnd, segmentsAt, segmentVersion, segmentsFit, lastFits, listGaps}
-use Rattle.freelist.specs.declared.Segment.{Segment}
 use Rattle.freelist.specs.declared.Listed.{Listed}
 use Rattle.freelist.specs.declared.Listed.the-variants.{Held, Bad}
 

@@ -6,7 +6,7 @@ use denote.Ref.{now}
 use lib.Dec.{leb}
 use lib.ListN.{length}
 use Rattle.wire.proofs.Answers.{gives}
-use Rattle.fileheader.specs.File.{isWide, fileWidth, fileNumber, endFits}
+use Rattle.fileheader.specs.File.{fileWidth, fileNumber, endFits}
 use Rattle.fileheader.proofs.Opens.{units-read, end-read, end-within, end-beyond}
 use Rattle.fileheader.proofs.Opens.{too-short, no-magic, disagree, bad-bounds, opens}
 use borrow.Author.Needs.{needs}

@@ -1,6 +1,6 @@
 use native.Mathlib.Omega.{arith}
 use denote.Ref.{now}
-use mathlib.Core.Path.{_≡_, sym, _∙_}
+use mathlib.Core.Path.{sym, _∙_}
 use borrow.Author.Needs.{needs}
 use Rattle.freelist.proofs.Segments.{Read, from-held, from-bad, after-is, after-none}
 use Rattle.freelist.proofs.after_segment.Statement.{statement}

@@ -2,8 +2,7 @@ use native.Mathlib.Omega.{arith}
 use borrow.Author.Needs.{needs}
 use denote.Ref.{now}
 use mathlib.Core.Path.{_∙_, sym}
-use Rattle.keylist.specs.declared.Data.the-variants.{Held}
-use Rattle.freelist.proofs.Frees.{free-is-head, free-nowhere, Reading, free-bad, free-segments}
+use Rattle.freelist.proofs.Frees.{free-is-head, free-nowhere, free-bad, free-segments}
 use Rattle.freelist.proofs.check_free.Statement.{statement}
 use Rattle.freelist.proofs.check_free.Tie as tie
 

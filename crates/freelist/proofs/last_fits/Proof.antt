@@ -1,4 +1,3 @@
-use borrow.Author.Needs.{needs}
 use Rattle.rules.specs.Free.{lastFits}
 use Rattle.freelist.proofs.last_fits.Statement.{statement}
 use Rattle.freelist.proofs.last_fits.Tie as tie

@@ -12,7 +12,8 @@ enum-told c = search needs
 returns-2 : tie.Need-returns-2
 returns-2 c =
     let c3 = c .before .before .before in
-    λ up. info-nowhere _ _ _ (c3 .before .is-nothing .ensures) (c3 .if1 .left) (rw (c .enum-told2 .given .1) at (c .before .before .find-row .ensures)) up
+    λ up. info-nowhere _ _ _ (c3 .before .is-nothing .ensures) (c3 .if1 .left)
+    (rw (c .enum-told2 .given .1) at (c .before .before .find-row .ensures)) up
 
 returns-3 : tie.Need-returns-3
 returns-3 c =
