@@ -74,6 +74,15 @@ impl Line {
 
 /// Prints the lines, and how each program grows from the line before.
 pub fn print(heading: &str, items: &str, lines: &[Line]) {
+    print_as(heading, items, lines, |time| format!("{:.1} us", nanos(time) / 1e3));
+}
+
+/// The same where a time is that of many runs: the time of one.
+pub fn print_one_of(runs: usize, heading: &str, items: &str, lines: &[Line]) {
+    print_as(heading, items, lines, |time| format!("{:.1} ns", nanos(time) / runs as f64));
+}
+
+fn print_as(heading: &str, items: &str, lines: &[Line], shown: impl Fn(Duration) -> String) {
     println!("{heading}");
     let [library, second, fast] = Program::ALL.map(Program::name);
     println!(
@@ -82,9 +91,9 @@ pub fn print(heading: &str, items: &str, lines: &[Line]) {
     );
     let mut before: Option<&Line> = None;
     for line in lines {
-        let [library, second, fast] = line.times.map(micros);
+        let [library, second, fast] = line.times.map(&shown);
         print!(
-            "{:>9}  {:>10}  {library:>10.1} us  {second:>10.1} us  {fast:>10.1} us  {:>14.2}  {:>12.2}",
+            "{:>9}  {:>10}  {library:>13}  {second:>13}  {fast:>13}  {:>14.2}  {:>12.2}",
             line.items,
             line.bytes,
             line.ratio(Program::Second),
@@ -102,8 +111,8 @@ pub fn print(heading: &str, items: &str, lines: &[Line]) {
     println!();
 }
 
-fn micros(time: Duration) -> f64 {
-    time.as_secs_f64() * 1e6
+fn nanos(time: Duration) -> f64 {
+    time.as_secs_f64() * 1e9
 }
 
 pub fn quotient(one: Duration, other: Duration) -> f64 {

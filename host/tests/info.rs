@@ -5,7 +5,9 @@ mod root_folder;
 use kirovadzun_host::compare::info::read_info;
 use kirovadzun_host::compare::Tally;
 use kirovadzun_host::ffi::Answer;
-use kirovadzun_host::gen::infos::{all_kinds, build, build_of, class, classes, Class, Field, Info, What};
+use kirovadzun_host::gen::infos::{
+    all_kinds, build, build_of, class, classes, get32, new_tag, put32, Class, Field, Info, What,
+};
 use kirovadzun_host::gen::{self, Rng};
 use kirovadzun_host::model::streamer::{ARRAY, CLASS_MASK, INFO, KINDS, NEW_CLASS, REFERENCED};
 use std::fs;
@@ -14,14 +16,6 @@ use std::fs;
 fn file_with(rng: &mut Rng, at: usize, record: &[u8]) -> Vec<u8> {
     let after = rng.below(9);
     [rng.bytes(at), record.to_vec(), rng.bytes(after)].concat()
-}
-
-fn put32(bytes: &mut [u8], at: usize, number: u32) {
-    bytes[at..at + 4].copy_from_slice(&number.to_be_bytes());
-}
-
-fn get32(bytes: &[u8], at: usize) -> u32 {
-    u32::from_be_bytes(bytes[at..at + 4].try_into().unwrap())
 }
 
 /// Reads a record at 0 with room enough.
@@ -177,11 +171,6 @@ fn ends_of_two_objects() {
         read(&mut tally, &record);
     }
     tally.finish(20_000, &[0, 21]);
-}
-
-/// The bytes of a new class tag.
-fn new_tag(name: &[u8]) -> Vec<u8> {
-    [&NEW_CLASS.to_be_bytes(), name, &[0]].concat()
 }
 
 /// Whether a class may stand where a tag of `there` does.

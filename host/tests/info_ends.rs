@@ -5,7 +5,7 @@ mod zeros;
 use kirovadzun_host::compare::info::read_info;
 use kirovadzun_host::compare::Tally;
 use kirovadzun_host::ffi::{number, Answer};
-use kirovadzun_host::gen::infos::{all_kinds, build, Field, Info, What};
+use kirovadzun_host::gen::infos::{all_kinds, build, get32, put32, Info};
 use kirovadzun_host::gen::{RawKey, Rng};
 use kirovadzun_host::model::streamer::COUNT_MASK;
 use zeros::Zeros;
@@ -17,60 +17,17 @@ const LIST: usize = 64;
 const DEEPEST: usize = 9;
 const ROOM: usize = 120;
 
-/// An object: where its ByteCount stands, and where it ends.
-#[derive(Clone, Copy, Debug)]
-struct Object {
-    at: usize,
-    end: usize,
-}
-
-fn get32(bytes: &[u8], at: usize) -> u32 {
-    u32::from_be_bytes(bytes[at..at + 4].try_into().unwrap())
-}
-
-fn put32(bytes: &mut [u8], at: usize, number: u32) {
-    bytes[at..at + 4].copy_from_slice(&number.to_be_bytes());
-}
-
-/// The objects of a valid record, outer ones before what they hold.
-fn objects(info: &Info) -> Vec<Object> {
-    let counts = info.fields.iter().filter(|field| field.what == What::ByteCount);
-    let end = |at: usize| at + 4 + (get32(&info.bytes, at) ^ COUNT_MASK) as usize;
-    counts.map(|field| Object { at: field.at, end: end(field.at) }).collect()
-}
-
-/// Those that are open at a field, the innermost last.
-fn open_at(objects: &[Object], field: &Field) -> Vec<Object> {
-    objects.iter().filter(|object| object.at < field.at && field.at < object.end).copied().collect()
-}
-
 /// A record with all ten kinds at a place of a file.
 struct Sample {
     at: usize,
     info: Info,
-    objects: Vec<Object>,
 }
 
 impl Sample {
     fn new(seed: u64, at: usize) -> Self {
         let mut rng = Rng::new(seed);
         let classes = all_kinds(&mut rng);
-        let info = build(&mut rng, at as u64, &classes, None);
-        Sample { at, objects: objects(&info), info }
-    }
-
-    /// Lets these objects end at `end` of the record. It is cut there if the list is among them.
-    fn ending(&self, objects: &[Object], end: usize) -> Vec<u8> {
-        let mut record = self.info.bytes.clone();
-        for object in objects {
-            put32(&mut record, object.at, COUNT_MASK + (end - object.at - 4) as u32);
-        }
-        if objects[0].at == LIST {
-            record.truncate(end);
-            put32(&mut record, 0, end as u32);
-            put32(&mut record, 6, (end - LIST) as u32);
-        }
-        record
+        Sample { at, info: build(&mut rng, at as u64, &classes, None) }
     }
 
     /// The record is 21 at this offset.
@@ -93,11 +50,11 @@ fn at_every_byte() {
     let mut deepest = 0;
     for sample in samples() {
         for field in sample.info.fields.iter().filter(|field| field.at > LIST) {
-            let open = open_at(&sample.objects, field);
+            let open = sample.info.open_at(field);
             deepest = deepest.max(open.len());
             for end in field.at..field.at + field.len {
                 for outer in 0..open.len() {
-                    let record = sample.ending(&open[outer..], end);
+                    let record = sample.info.ending(&open[outer..], end);
                     sample
                         .refused(&mut tally, &record, field.at, &|| format!("{field:?}, end {end}, {:?}", open[outer]));
                 }
@@ -115,7 +72,7 @@ fn one_at_every_byte() {
     let mut tally = Tally::new("read_info, one ByteCount that ends at each byte");
     for sample in samples() {
         for field in sample.info.fields.iter().filter(|field| field.at > LIST) {
-            let open = open_at(&sample.objects, field);
+            let open = sample.info.open_at(field);
             for end in field.at..field.at + field.len {
                 for (nth, object) in open.iter().enumerate() {
                     let mut record = sample.info.bytes.clone();
@@ -135,7 +92,7 @@ fn one_at_every_byte() {
 fn later() {
     let mut tally = Tally::new("read_info, ByteCounts that end later");
     for sample in samples() {
-        for object in &sample.objects {
+        for object in sample.info.objects() {
             let field = sample.info.fields.iter().find(|field| field.at == object.at).unwrap();
             for end in object.end + 1..=field.end + 9 {
                 let mut record = sample.info.bytes.clone();
@@ -156,7 +113,7 @@ fn bits() {
         let right =
             read_info(&mut tally, &[&vec![7; sample.at], &sample.info.bytes[..]].concat(), sample.at as u64, ROOM);
         assert_eq!(right.0, Answer::success(16));
-        for object in &sample.objects {
+        for object in sample.info.objects() {
             let count = get32(&sample.info.bytes, object.at) ^ COUNT_MASK;
             let left = (sample.info.bytes.len() - object.at - 4) as u32;
             for bits in [0, 2, 3] {

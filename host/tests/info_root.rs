@@ -5,6 +5,7 @@ mod root_folder;
 use kirovadzun_host::compare::info::read_info;
 use kirovadzun_host::compare::Tally;
 use kirovadzun_host::ffi::{number, Answer};
+use kirovadzun_host::gen::infos::{get32, put32};
 use kirovadzun_host::gen::Rng;
 use kirovadzun_host::model::streamer::{CLASS_MASK, COUNT_MASK, KINDS};
 use root_folder::{expect_known, info_files};
@@ -12,14 +13,6 @@ use std::fs;
 
 /// Numbers of a table with room for every row.
 const ROOM: usize = 6 * 1000;
-
-fn get(bytes: &[u8], at: usize) -> u32 {
-    u32::from_be_bytes(bytes[at..at + 4].try_into().unwrap())
-}
-
-fn put(bytes: &mut [u8], at: usize, number: u32) {
-    bytes[at..at + 4].copy_from_slice(&number.to_be_bytes());
-}
 
 #[test]
 fn as_they_are() {
@@ -79,17 +72,17 @@ fn bare(tally: &mut Tally, record: &[u8]) -> Vec<u8> {
     let mut bare = record[..number + 4].to_vec();
     let mut options = Vec::new();
     let mut at = number + 4;
-    for _ in 0..get(record, number) {
-        let end = at + 4 + (get(record, at) ^ COUNT_MASK) as usize;
+    for _ in 0..get32(record, number) {
+        let end = at + 4 + (get32(record, at) ^ COUNT_MASK) as usize;
         bare.extend(&record[at..end]);
         options.push(end);
         at = end + 1 + usize::from(record[end]);
     }
     assert_eq!(at, record.len(), "objects and options do not fill the list");
     let size = bare.len();
-    put(&mut bare, 0, size as u32);
-    put(&mut bare, 6, (size - keylen) as u32);
-    put(&mut bare, keylen, COUNT_MASK + (size - keylen - 4) as u32);
+    put32(&mut bare, 0, size as u32);
+    put32(&mut bare, 6, (size - keylen) as u32);
+    put32(&mut bare, keylen, COUNT_MASK + (size - keylen - 4) as u32);
     refer_again(tally, record, &mut bare, &options);
     bare
 }
@@ -102,9 +95,9 @@ fn refer_again(tally: &mut Tally, record: &[u8], bare: &mut [u8], options: &[usi
             break;
         }
         let at = answer.place as usize;
-        let tag = (get(bare, at) ^ CLASS_MASK) as usize;
+        let tag = (get32(bare, at) ^ CLASS_MASK) as usize;
         let before = options.iter().take_while(|&&option| option < tag);
         let moved: usize = before.map(|&option| 1 + usize::from(record[option])).sum();
-        put(bare, at, CLASS_MASK | (tag - moved) as u32);
+        put32(bare, at, CLASS_MASK | (tag - moved) as u32);
     }
 }

@@ -20,7 +20,9 @@ use Rattle.rules.specs.Row.{starts}
 use Rattle.rules.specs.Turn.{rowOf, listedMark, copyTurn, copies, dataTurn, keysIn, keysTurn, dirTurn, roundTurn, nextRow, rounds, firstPart}
 use Rattle.infofield.specs.Field.{andThen, fieldAt, numbersAt, endOf, countAt, counted, versionedAt, versioned, endedAt}
 use Rattle.infofield.specs.Field.{textFieldAt, unnamedAt, zeroAt, objectAt}
-use Rattle.infotag.specs.Tag.{firstIn, classIn, classOf, classNameAt, newTag, oldTag, tagAt, headAt, headed}
+use Rattle.classname.specs.Find.{firstIn}
+use Rattle.classname.specs.Name.{classIn, classOf}
+use Rattle.infotag.specs.Tag.{classNameAt, newTag, oldTag, tagAt, headAt, headed}
 use Rattle.infoelement.specs.Element.{namedAt, withName, detailsAt, baseAt, withFields, counterAt, ownAt, memberAt}
 use Rattle.streamer.specs.Row.{flat, times, ends, elementAt}
 use Rattle.streamer.specs.Info.{collectionAt, sized, arrayBody, arrayAt, classBody, classAt, wholeAt, listAt, recordAt, infoAt}

@@ -13,7 +13,7 @@ use Rattle.key.specs.Writer.{headerBytes, sumBytes}
 use Rattle.fileheader.specs.File.{fileLayout}
 use Rattle.directory.specs.Dir.{dirLayout}
 use Rattle.rules.specs.Free.{segmentLayout}
-use Rattle.infotag.specs.Tag.{classNames}
+use Rattle.classname.specs.Name.{classNames}
 
 -- the Version of a key, a directory header or a segment, in the wide form or not
 abbrev pub inForm : Bool → ℕ → ℕ

@@ -1,41 +1,33 @@
 -- Tags stand in the record: what a tag that was taken means, and that the tags seen keep it.
 use Prim.Native.Nat.{ℕ, zero, suc, _+_, _-_, _<_}
 use mathlib.Core.List.{List, [], _∷_, _++_}
-use mathlib.Core.Bool.{Bool, true, false}
+use mathlib.Core.Bool.{true}
 use mathlib.Core.Path.{_≡_, refl, sym, _∙_}
 use native.Mathlib.Numerals.{add-one}
 use native.Mathlib.Omega.{arith}
 use borrow.Author.Tests.{eq-eqb}
 use lib.ListN.{length, getD, set, take, drop, replicate, length-take}
 use lib.Seq.{length-take-le, take-suc, getD-take}
-use Rattle.wire.specs.Check.{All, pick}
+use Rattle.wire.specs.Check.{All}
 use Rattle.wire.specs.Equal.{eqBytes}
 use Rattle.wire.specs.Number.{numAt}
-use Rattle.wire.proofs.Equal.{eq-same, same-eq}
+use Rattle.wire.proofs.Equal.{same-eq}
+use Rattle.classname.specs.Find.{firstIn}
+use Rattle.classname.specs.Name.{classes, nameOf, classOf}
+use Rattle.classname.specs.declared.find.First.{First}
+use Rattle.classname.specs.declared.find.First.the-variants.{At, Nowhere}
+use Rattle.classname.proofs.Finds.{first-holds}
+use Rattle.classname.proofs.Names.{each-name}
 use Rattle.infofield.specs.Field.{countAt}
 use Rattle.infofield.proofs.Steps.{each-count, from-open}
-use Rattle.infotag.specs.Tag.{between, firstIn, classNames, classIn, classOf, onZero, classNameAt, offsetOf, beside, tagAt, onTag, headAt}
-use Rattle.infotag.specs.Stand.{nameOf, tagStands, newTagOf}
-use Rattle.infotag.specs.declared.tag.First.{First}
-use Rattle.infotag.specs.declared.tag.First.the-variants.{At, Nowhere}
+use Rattle.infotag.specs.Tag.{between, onZero, classNameAt, offsetOf, beside, tagAt, onTag, headAt}
+use Rattle.infotag.specs.Stand.{tagStands, newTagOf}
 use Rattle.infotag.specs.declared.tag.Class.the-variants.{Named}
 use Rattle.infotag.specs.declared.tag.Tag.{Tag}
 use Rattle.infotag.specs.declared.tag.Tag.the-variants.{Known, Wrong}
 use Rattle.infotag.specs.declared.tag.Head.{Head}
 use Rattle.infotag.specs.declared.tag.Head.the-variants as head
-use Rattle.infotag.proofs.Words.{first-holds}
 use Rattle.infotag.proofs.Tags.{each-tag}
-
--- a byte string that names a class is the class's name
-class-name : (ns : List (List ℕ)) (x : List ℕ) → classIn ns x < length ns → getD ns (classIn ns x) [] ≡ x
-unfolding classIn
-class-name [] x l = absurd (omega arith)
-class-name (n ∷ ns) x l = go (eqBytes x n) refl (class-name ns x) l
-  where
-    go : (b : Bool) → eqBytes x n ≡ b → (classIn ns x < length ns → getD ns (classIn ns x) [] ≡ x)
-        → pick b 0 (suc (classIn ns x)) < length (n ∷ ns) → getD (n ∷ ns) (pick b 0 (suc (classIn ns x))) [] ≡ x
-    go true i f l = sym (eq-same x n i)
-    go false i f l = f (omega arith)
 
 -- bytes up to the zero that ends them
 ends-zero : (l x : List ℕ) (n : ℕ) → n < length l → getD l n 0 ≡ 0 → x ≡ take n l → eqBytes (take (length x + 1) l) (x ++ (0 ∷ [])) ≡ true
@@ -44,12 +36,12 @@ ends-zero l x n h z e =
     rw (e, k, add-one, take-suc l n 0 h, z) (same-eq (take n l ++ (0 ∷ [])))
 
 -- a name that was read stands there, and a zero after it
-named-stands : (s : List ℕ) (q e c r : ℕ) → classNameAt s q e ≡ Named c r → c < 12
+named-stands : (s : List ℕ) (q e c r : ℕ) → classNameAt s q e ≡ Named c r → c < classes
     → eqBytes (take (length (nameOf c) + 1) (drop q s)) (nameOf c ++ (0 ∷ [])) ≡ true
-unfolding classNameAt classOf nameOf
+unfolding classNameAt
 named-stands s q e c r = go (firstIn (between s q e) 0) refl
   where
-    go : (f : First) → firstIn (between s q e) 0 ≡ f → onZero f s q ≡ Named c r → c < 12
+    go : (f : First) → firstIn (between s q e) 0 ≡ f → onZero f s q ≡ Named c r → c < classes
         → eqBytes (take (length (nameOf c) + 1) (drop q s)) (nameOf c ++ (0 ∷ [])) ≡ true
     go Nowhere i j l = let z : _≡_ {A = ℕ} 0 1 = cc in absurd (omega arith)
     go (At n) i j l =
@@ -58,7 +50,7 @@ named-stands s q e c r = go (firstIn (between s q e) 0) refl
         let m = length-take (e - q) (drop q s) in
         let d = getD-take (e - q) (drop q s) n 0 (omega (arith, h .0)) in
         ends-zero (drop q s) (nameOf c) n (omega (arith, h .0)) (sym d ∙ h .1)
-        (rw k (class-name classNames (take n (drop q s)) (rw k at l)))
+        (rw k (each-name (take n (drop q s)) .only (rw k at l)))
 
 -- what holds of each place of a list, after a store
 each-set : (P : ℕ → ℕ → Type 0) (ts : List ℕ) (c o : ℕ) → P c o → ((d : ℕ) → P d (getD ts d 0)) → (d : ℕ) → P d (getD (set ts c o) d 0)
@@ -90,7 +82,7 @@ module _ (s : List ℕ) (rec : ℕ) where
   Taken p (Known c o r) = All (tagStands s (newTagOf s rec p) c) × Stands c o
   Taken p (Wrong c r) = Unit
 
-  tag-taken : (p e low high : ℕ) (ts : List ℕ) → high < 12 → TagsStand ts → Taken p (tagAt s rec p e low high ts)
+  tag-taken : (p e low high : ℕ) (ts : List ℕ) → high < classes → TagsStand ts → Taken p (tagAt s rec p e low high ts)
   unfolding newTagOf
   tag-taken p e low high ts l h =
       each-tag s rec p e low high ts (Taken p) (λ c r. tt)
@@ -108,7 +100,7 @@ module _ (s : List ℕ) (rec : ℕ) where
   Kept ts p (head.Known h) = All (tagStands s (newTagOf s rec (p + 4)) (h .class)) × TagsStand (set ts (h .class) (h .offset))
   Kept ts p (head.Wrong c q) = Unit
 
-  pub head-kept : (p e low high : ℕ) (ts : List ℕ) → high < 12 → TagsStand ts → Kept ts p (headAt s rec p e low high ts)
+  pub head-kept : (p e low high : ℕ) (ts : List ℕ) → high < classes → TagsStand ts → Kept ts p (headAt s rec p e low high ts)
   unfolding headAt
   head-kept p e low high ts l h =
       each-count _ _ _ (Kept ts p) tt (countAt s p e) (λ q f i.

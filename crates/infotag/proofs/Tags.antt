@@ -10,15 +10,16 @@ use lib.Dec.{leb, eqb}
 use Rattle.wire.specs.Check.{Check, all, All, pick}
 use Rattle.wire.specs.Number.{numAt}
 use Rattle.wire.proofs.Checks.{yes-all, not-all, all-or, picked, not-picked}
+use Rattle.classname.specs.Find.{firstIn}
+use Rattle.classname.specs.declared.find.First.{First}
+use Rattle.classname.specs.declared.find.First.the-variants.{At, Nowhere}
 use Rattle.infofield.specs.Field.{andThen, fieldAt, countAt, counted}
 use Rattle.infofield.proofs.Steps.{each-step, each-count, from-open}
-use Rattle.infotag.specs.Tag.{firstIn, classNameAt, allowed, fresh, offsetOf, onName, newTag, beside, onOffset, oldTag, tagAt, onTag, headAt, headed}
+use Rattle.infotag.specs.Tag.{classNameAt, allowed, fresh, offsetOf, onName, newTag, beside, onOffset, oldTag, tagAt, onTag, headAt, headed}
 use Rattle.infofield.specs.declared.field.Step.{Step}
 use Rattle.infofield.specs.declared.field.Step.the-variants as step
 use Rattle.infofield.specs.declared.field.Count.{Count}
 use Rattle.infofield.specs.declared.field.Count.the-variants.{Open, Bad}
-use Rattle.infotag.specs.declared.tag.First.{First}
-use Rattle.infotag.specs.declared.tag.First.the-variants.{At, Nowhere}
 use Rattle.infotag.specs.declared.tag.Class.{Class}
 use Rattle.infotag.specs.declared.tag.Class.the-variants.{Named, Cut}
 use Rattle.infotag.specs.declared.tag.Tag.{Tag}

@@ -2,18 +2,15 @@
 -- that tag from the record's start plus 2", said of the record's bytes alone, whatever tags a reader remembers.
 use Prim.Native.Nat.{ℕ, _+_, _-_}
 use mathlib.Core.List.{List, [], _∷_, _++_}
-use lib.ListN.{length, getD, take, drop}
+use lib.ListN.{length, take, drop}
 use lib.Dec.{eqb}
 use Rattle.wire.specs.Check.{Check, eq, yes, all, pick}
 use Rattle.wire.specs.Equal.{eqBytes}
 use Rattle.wire.specs.Number.{numAt}
-use Rattle.infotag.specs.Tag.{classNames, headAt}
+use Rattle.classname.specs.Name.{nameOf}
+use Rattle.infotag.specs.Tag.{headAt}
 use Rattle.infotag.specs.declared.tag.Head.{Head}
 use Rattle.infotag.specs.declared.tag.Head.the-variants.{Known, Wrong}
-
--- the name of class c
-unfoldable pub nameOf : ℕ → List ℕ
-nameOf c = getD classNames c []
 
 -- at the place a stand 0xffffffff, the name of class c and a zero
 abbrev pub tagStands : List ℕ → ℕ → ℕ → List Check

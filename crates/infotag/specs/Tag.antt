@@ -1,14 +1,15 @@
 -- Class tags: document 01, "A new class tag is 0xffffffff and a name ended by zero, once per class and record".
-use Prim.Native.Nat.{ℕ, zero, suc, _+_, _-_}
+use Prim.Native.Nat.{ℕ, _+_, _-_}
 use mathlib.Core.List.{List, [], _∷_}
 use lib.ListN.{getD, take, drop}
 use lib.Dec.{leb, eqb}
 use Rattle.wire.specs.Check.{Check, le, eq, all, pick}
-use Rattle.wire.specs.Equal.{eqBytes}
 use Rattle.wire.specs.Number.{numAt}
+use Rattle.classname.specs.Find.{firstIn}
+use Rattle.classname.specs.Name.{classOf}
+use Rattle.classname.specs.declared.find.First.{First}
+use Rattle.classname.specs.declared.find.First.the-variants.{At, Nowhere}
 use Rattle.infofield.specs.Field.{andThen, fieldAt, countAt, counted}
-use Rattle.infotag.specs.declared.tag.First.{First}
-use Rattle.infotag.specs.declared.tag.First.the-variants.{At, Nowhere}
 use Rattle.infotag.specs.declared.tag.Class.{Class}
 use Rattle.infotag.specs.declared.tag.Class.the-variants.{Named, Cut}
 use Rattle.infotag.specs.declared.tag.Tag.{Tag}
@@ -20,42 +21,6 @@ use Rattle.infotag.specs.declared.tag.Head.the-variants as head
 -- the bytes from q on and before e
 abbrev pub between : List ℕ → ℕ → ℕ → List ℕ
 between s q e = take (e - q) (drop q s)
-
--- the first place of a list that holds a value
-abbrev pub later : First → First
-later (At i) = At (suc i)
-later Nowhere = Nowhere
-
-unfoldable pub firstIn : List ℕ → ℕ → First
-firstIn [] v = Nowhere
-firstIn (x ∷ xs) v = pick (eqb x v) (At 0) (later (firstIn xs v))
-
--- the twelve classes, in the order of their numbers: 0 TStreamerInfo, 1 TObjArray, then 002's list, of kinds 1 to 10:
--- TStreamerBase, TStreamerBasicType, TStreamerString, TStreamerBasicPointer, TStreamerObject, TStreamerObjectPointer,
--- TStreamerLoop, TStreamerObjectAny, TStreamerSTL, TStreamerSTLString
-abbrev pub classNames : List (List ℕ)
-classNames =
-    (84 ∷ 83 ∷ 116 ∷ 114 ∷ 101 ∷ 97 ∷ 109 ∷ 101 ∷ 114 ∷ 73 ∷ 110 ∷ 102 ∷ 111 ∷ [])
-    ∷ (84 ∷ 79 ∷ 98 ∷ 106 ∷ 65 ∷ 114 ∷ 114 ∷ 97 ∷ 121 ∷ [])
-    ∷ (84 ∷ 83 ∷ 116 ∷ 114 ∷ 101 ∷ 97 ∷ 109 ∷ 101 ∷ 114 ∷ 66 ∷ 97 ∷ 115 ∷ 101 ∷ [])
-    ∷ (84 ∷ 83 ∷ 116 ∷ 114 ∷ 101 ∷ 97 ∷ 109 ∷ 101 ∷ 114 ∷ 66 ∷ 97 ∷ 115 ∷ 105 ∷ 99 ∷ 84 ∷ 121 ∷ 112 ∷ 101 ∷ [])
-    ∷ (84 ∷ 83 ∷ 116 ∷ 114 ∷ 101 ∷ 97 ∷ 109 ∷ 101 ∷ 114 ∷ 83 ∷ 116 ∷ 114 ∷ 105 ∷ 110 ∷ 103 ∷ [])
-    ∷ (84 ∷ 83 ∷ 116 ∷ 114 ∷ 101 ∷ 97 ∷ 109 ∷ 101 ∷ 114 ∷ 66 ∷ 97 ∷ 115 ∷ 105 ∷ 99 ∷ 80 ∷ 111 ∷ 105 ∷ 110 ∷ 116 ∷ 101 ∷ 114 ∷ [])
-    ∷ (84 ∷ 83 ∷ 116 ∷ 114 ∷ 101 ∷ 97 ∷ 109 ∷ 101 ∷ 114 ∷ 79 ∷ 98 ∷ 106 ∷ 101 ∷ 99 ∷ 116 ∷ [])
-    ∷ (84 ∷ 83 ∷ 116 ∷ 114 ∷ 101 ∷ 97 ∷ 109 ∷ 101 ∷ 114 ∷ 79 ∷ 98 ∷ 106 ∷ 101 ∷ 99 ∷ 116 ∷ 80 ∷ 111 ∷ 105 ∷ 110 ∷ 116 ∷ 101 ∷ 114 ∷ [])
-    ∷ (84 ∷ 83 ∷ 116 ∷ 114 ∷ 101 ∷ 97 ∷ 109 ∷ 101 ∷ 114 ∷ 76 ∷ 111 ∷ 111 ∷ 112 ∷ [])
-    ∷ (84 ∷ 83 ∷ 116 ∷ 114 ∷ 101 ∷ 97 ∷ 109 ∷ 101 ∷ 114 ∷ 79 ∷ 98 ∷ 106 ∷ 101 ∷ 99 ∷ 116 ∷ 65 ∷ 110 ∷ 121 ∷ [])
-    ∷ (84 ∷ 83 ∷ 116 ∷ 114 ∷ 101 ∷ 97 ∷ 109 ∷ 101 ∷ 114 ∷ 83 ∷ 84 ∷ 76 ∷ [])
-    ∷ (84 ∷ 83 ∷ 116 ∷ 114 ∷ 101 ∷ 97 ∷ 109 ∷ 101 ∷ 114 ∷ 83 ∷ 84 ∷ 76 ∷ 83 ∷ 116 ∷ 114 ∷ 105 ∷ 110 ∷ 103 ∷ [])
-    ∷ []
-
--- the number of the class that a byte string names; an unknown name gets the number after the last
-unfoldable pub classIn : List (List ℕ) → List ℕ → ℕ
-classIn [] s = 0
-classIn (n ∷ ns) s = pick (eqBytes s n) 0 (suc (classIn ns s))
-
-unfoldable pub classOf : List ℕ → ℕ
-classOf s = classIn classNames s
 
 -- "an unknown, repeated or misplaced class is 22": the class c of a tag at p is one of low to high
 abbrev pub allowed : ℕ → ℕ → ℕ → List Check

@@ -2,7 +2,11 @@
 ghost use mathlib.Core.Path.{_≡_};
 ghost use lib.ListN.{getD};
 ghost use Rattle.wire.specs.Lent.{before};
-ghost use Rattle.infotag.specs.Tag.{firstIn, classOf, classNameAt, newTag, oldTag, tagAt, headAt};
+ghost use Rattle.classname.specs.Find.{firstIn};
+ghost use Rattle.infotag.specs.Tag.{classNameAt, newTag, oldTag, tagAt, headAt};
+use classname::find::First;
+use classname::find::first_byte;
+use classname::name::class_of;
 use infofield::field::Count;
 use infofield::field::Step;
 use infofield::field::field;
@@ -10,13 +14,6 @@ use infofield::field::offset;
 use infofield::field::open;
 use wire::number::be32;
 use wire::number::least;
-use wire::text::same;
-
-// The first place of a list that holds a value.
-pub enum First {
-    At(usize),
-    Nowhere,
-}
 
 // A name ended by zero: the class that it names and the place after the zero.
 pub enum Class {
@@ -44,20 +41,6 @@ pub enum Head {
     Wrong(u32, usize),
 }
 
-// The first zero byte.
-fn first_zero(s: &[u8]) -> First
-    ensures { λ r. ⌜ r ≡ firstIn (before s) 0 ⌝ }
-{
-    let mut i: usize = 0;
-    while i < s.len() {
-        if s[i] == 0 {
-            return First::At(i);
-        }
-        i += 1;
-    }
-    First::Nowhere
-}
-
 // The offset of a class's new tag, 0 where there was none.
 fn seen(tags: &[usize], class: usize) -> usize
     ensures { λ r. ⌜ r ≡ getD (before tags) class 0 ⌝ }
@@ -82,49 +65,6 @@ fn first_offset(tags: &[usize], offset: usize) -> First
     First::Nowhere
 }
 
-// The class that a byte string names, 12 for none.
-fn class_of(name: &[u8]) -> usize
-    ensures { λ r. ⌜ r ≡ classOf (before name) ⌝ }
-{
-    if same(name, b"TStreamerInfo") {
-        return 0;
-    }
-    if same(name, b"TObjArray") {
-        return 1;
-    }
-    if same(name, b"TStreamerBase") {
-        return 2;
-    }
-    if same(name, b"TStreamerBasicType") {
-        return 3;
-    }
-    if same(name, b"TStreamerString") {
-        return 4;
-    }
-    if same(name, b"TStreamerBasicPointer") {
-        return 5;
-    }
-    if same(name, b"TStreamerObject") {
-        return 6;
-    }
-    if same(name, b"TStreamerObjectPointer") {
-        return 7;
-    }
-    if same(name, b"TStreamerLoop") {
-        return 8;
-    }
-    if same(name, b"TStreamerObjectAny") {
-        return 9;
-    }
-    if same(name, b"TStreamerSTL") {
-        return 10;
-    }
-    if same(name, b"TStreamerSTLString") {
-        return 11;
-    }
-    12
-}
-
 // The class that is named from a place on, within the innermost open end.
 fn class_at(file: &[u8], from: usize, end: usize) -> Class
     ensures { λ r. ⌜ r ≡ classNameAt (before file) from end ⌝ }
@@ -133,7 +73,7 @@ fn class_at(file: &[u8], from: usize, end: usize) -> Class
     if stop < from {
         return Class::Cut;
     }
-    let First::At(n) = first_zero(&file[from..stop]) else {
+    let First::At(n) = first_byte(&file[from..stop], 0) else {
         return Class::Cut;
     };
     let last = from + n;

@@ -3,15 +3,19 @@
 //!     bench_once make WHAT ITEMS FILE
 //!     bench_once run PROGRAM WHAT ITEMS FILE
 //!
-//! WHAT is a shape of file or `info`, a StreamerInfo record; ITEMS are its pieces or elements. PROGRAM is library,
-//! second, fast, or none, which only reads the file.
+//! WHAT is a shape of file; `info`, a StreamerInfo record; or `tags`, the smallest such record with all twelve new tags.
+//! ITEMS are the pieces, the elements, or how many times `tags` is read. PROGRAM is library, second, fast, or none, which
+//! only reads the file.
 
 use kirovadzun_host::ffi::Answer;
 use kirovadzun_host::gen::{infos, shapes};
+use kirovadzun_host::model::streamer::KINDS;
 use kirovadzun_host::programs::Program;
+use std::hint::black_box;
 use std::{env, fs, process};
 
 const INFO: &str = "info";
+const TAGS: &str = "tags";
 
 fn main() {
     let arguments: Vec<String> = env::args().skip(1).collect();
@@ -35,6 +39,7 @@ fn make(what: &str, items: usize, path: &str) -> Result<(), String> {
     let bytes = match shapes::ALL.iter().find(|shape| shape.name == what) {
         Some(shape) => (shape.plan)(items).build().bytes,
         None if what == INFO => infos::of_elements(items).bytes,
+        None if what == TAGS => infos::of_tags().bytes,
         None => return Err(format!("no shape {what}")),
     };
     fs::write(path, bytes).map_err(|error| format!("{path}: {error}"))
@@ -45,12 +50,25 @@ fn run(program: &str, what: &str, items: usize, path: &str) -> Result<(), String
     let Some(program) = Program::ALL.into_iter().find(|known| known.name() == program) else {
         return if program == "none" { Ok(()) } else { Err(format!("no program {program}")) };
     };
-    let answer = if what == INFO {
-        program.read_info(&file, &mut vec![0; 6 * items])
-    } else {
-        let mut tables = [0; 3].map(|_| vec![0; items]);
-        program.audit(&file, tables.each_mut().map(Vec::as_mut_slice))
+    let (answer, count) = match what {
+        INFO => (read(program, &file, items, 1), items),
+        TAGS => (read(program, &file, KINDS.len(), items), KINDS.len()),
+        _ => (audit(program, &file, items), items),
     };
-    let expected = Answer::success(items as u64);
+    let expected = Answer::success(count as u64);
     (answer == expected).then_some(()).ok_or_else(|| format!("{path}: {answer:?}"))
+}
+
+fn audit(program: Program, file: &[u8], pieces: usize) -> Answer {
+    let mut tables = [0; 3].map(|_| vec![0; pieces]);
+    program.audit(file, tables.each_mut().map(Vec::as_mut_slice))
+}
+
+/// Reads a record this many times, at least once: the last answer.
+fn read(program: Program, file: &[u8], elements: usize, reads: usize) -> Answer {
+    let mut table = vec![0; 6 * elements];
+    for _ in 1..reads {
+        program.read_info(black_box(file), black_box(&mut table));
+    }
+    program.read_info(file, &mut table)
 }

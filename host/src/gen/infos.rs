@@ -62,11 +62,59 @@ pub struct Info {
     pub rows: Vec<Row>,
 }
 
+/// An object: where its ByteCount stands, and where it ends.
+#[derive(Clone, Copy, Debug)]
+pub struct Object {
+    pub at: usize,
+    pub end: usize,
+}
+
+impl Info {
+    /// The objects of a valid record, outer ones before what they hold.
+    pub fn objects(&self) -> Vec<Object> {
+        let counts = self.fields.iter().filter(|field| field.what == What::ByteCount);
+        let end = |at: usize| at + 4 + (get32(&self.bytes, at) ^ COUNT_MASK) as usize;
+        counts.map(|field| Object { at: field.at, end: end(field.at) }).collect()
+    }
+
+    /// Those that are open at a field, the innermost last.
+    pub fn open_at(&self, field: &Field) -> Vec<Object> {
+        self.objects().into_iter().filter(|object| object.at < field.at && field.at < object.end).collect()
+    }
+
+    /// Lets these objects end at `end` of the record. It is cut there if the list is among them.
+    pub fn ending(&self, objects: &[Object], end: usize) -> Vec<u8> {
+        let mut record = self.bytes.clone();
+        for object in objects {
+            put32(&mut record, object.at, COUNT_MASK + (end - object.at - 4) as u32);
+        }
+        if objects[0].at == self.keylen {
+            record.truncate(end);
+            put32(&mut record, 0, end as u32);
+            put32(&mut record, 6, (end - self.keylen) as u32);
+        }
+        record
+    }
+}
+
+pub fn get32(bytes: &[u8], at: usize) -> u32 {
+    u32::from_be_bytes(bytes[at..at + 4].try_into().unwrap())
+}
+
+pub fn put32(bytes: &mut [u8], at: usize, number: u32) {
+    bytes[at..at + 4].copy_from_slice(&number.to_be_bytes());
+}
+
+/// The bytes of a new class tag.
+pub fn new_tag(name: &[u8]) -> Vec<u8> {
+    [&NEW_CLASS.to_be_bytes(), name, &[0]].concat()
+}
+
 /// Other bytes for one field, by its index. Everything else is laid down to fit them.
 pub type Twist<'a> = Option<(usize, &'a [u8])>;
 
 /// Random strings and numbers for an element of this kind.
-pub fn element(rng: &mut Rng, kind: usize) -> Element {
+fn element(rng: &mut Rng, kind: usize) -> Element {
     let strings = [0; 5].map(|_| {
         let len = string_length(rng);
         rng.bytes(len)
@@ -83,6 +131,16 @@ pub fn class(rng: &mut Rng, kinds: &[usize]) -> Class {
     Class { strings, elements: kinds.iter().map(|&kind| element(rng, kind)).collect() }
 }
 
+/// The same with no string longer than `most`.
+pub fn short_class(rng: &mut Rng, kinds: &[usize], most: usize) -> Class {
+    let mut class = class(rng, kinds);
+    let elements = class.elements.iter_mut().flat_map(|element| &mut element.strings);
+    for string in elements.chain(&mut class.strings) {
+        string.truncate(most);
+    }
+    class
+}
+
 /// Up to four classes of up to six elements, of any kinds.
 pub fn classes(rng: &mut Rng) -> Vec<Class> {
     (0..rng.below(5))
@@ -95,15 +153,8 @@ pub fn classes(rng: &mut Rng) -> Vec<Class> {
 
 /// Three classes with short strings: elements of all ten kinds, none, and some kinds again.
 pub fn all_kinds(rng: &mut Rng) -> Vec<Class> {
-    let mut classes =
-        vec![class(rng, &[1, 2, 3, 4, 5, 6, 7, 8, 9, 10]), class(rng, &[]), class(rng, &[7, 1, 10, 4, 9, 9])];
-    for class in &mut classes {
-        let elements = class.elements.iter_mut().flat_map(|element| &mut element.strings);
-        for string in elements.chain(&mut class.strings) {
-            string.truncate(3);
-        }
-    }
-    classes
+    let kinds: [&[usize]; 3] = [&[1, 2, 3, 4, 5, 6, 7, 8, 9, 10], &[], &[7, 1, 10, 4, 9, 9]];
+    kinds.map(|kinds| short_class(rng, kinds, 3)).to_vec()
 }
 
 /// The record at `at` of a file, with four-byte offsets in its key.
@@ -190,8 +241,7 @@ impl Builder<'_> {
             field.end = end;
         }
         if !twisted {
-            let count = COUNT_MASK | (end - start) as u32;
-            self.bytes[at..at + 4].copy_from_slice(&count.to_be_bytes());
+            put32(&mut self.bytes, at, COUNT_MASK | (end - start) as u32);
         }
     }
 
@@ -209,8 +259,7 @@ impl Builder<'_> {
             match builder.tags.get(class) {
                 Some(&tag) => drop(builder.number(What::Reference(class), CLASS_MASK | (tag as u32 + 2))),
                 None => {
-                    let bytes = [&NEW_CLASS.to_be_bytes(), class.as_bytes(), &[0]].concat();
-                    let at = builder.put(What::Tag(class), &bytes);
+                    let at = builder.put(What::Tag(class), &new_tag(class.as_bytes()));
                     builder.tags.insert(class, at);
                 }
             }
@@ -306,4 +355,12 @@ pub fn of_elements(elements: usize) -> Info {
     let kinds: Vec<usize> = (0..EACH).map(|nth| 1 + nth % KINDS.len()).collect();
     let classes: Vec<Class> = (0..elements / EACH).map(|_| class(&mut rng, &kinds)).collect();
     build(&mut rng, 0, &classes, None)
+}
+
+/// The smallest record with all twelve new tags, at 0: one class, an element of each kind, empty strings.
+pub fn of_tags() -> Info {
+    let mut rng = Rng::new(0);
+    let kinds: Vec<usize> = (1..=KINDS.len()).collect();
+    let class = short_class(&mut rng, &kinds, 0);
+    build(&mut rng, 0, &[class], None)
 }

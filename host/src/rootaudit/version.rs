@@ -1,6 +1,6 @@
 //! What the program was made of. The build script asks for commit and toolchain.
 
-/// The requests to document 01 that are in; each changes verdicts.
+/// The requests to document 01 that are in and change verdicts.
 const REQUESTS: &str = "01, 02";
 
 pub fn text() -> String {

@@ -5,6 +5,8 @@
 #include <string.h>
 
 #define PLACE 7
+/* The first class tag. */
+#define TAG (PLACE + 89)
 #define ROOM 14
 
 static int failed = 0;
@@ -155,6 +157,10 @@ int main(void)
     row[3] = (uint32_t)type_name;
     check(read_info(PLACE, 13) == 0 && place == 0 && count == 1, "the record is read");
     check(holds(13, row, 6), "its row");
+    file[TAG + 4 + 9] ^= 1;
+    check(read_info(PLACE, 13) == 22 && place == TAG && count == 0, "another class name is 22");
+    check(holds(13, row, 0), "zeros after 22");
+    file[TAG + 4 + 9] ^= 1;
     check(read_info(PLACE, 5) == 24 && place == 0 && count == 1, "no whole row is 24");
     check(holds(5, row, 0), "zeros after 24");
     check(read_info(PLACE + 1, 6) == 5 && place == PLACE + 1 && count == 0, "no piece at 8");

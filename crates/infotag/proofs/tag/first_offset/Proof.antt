@@ -5,7 +5,7 @@ use borrow.Author.Count.{below-more}
 use denote.Ref.{now}
 use native.Mathlib.Omega.{arith}
 use mathlib.Core.Path.{_≡_}
-use Rattle.infotag.proofs.Words.{nowhere, first-at}
+use Rattle.classname.proofs.Finds.{nowhere, first-at}
 use Rattle.infotag.proofs.tag.first_offset.Statement.{statement}
 use Rattle.infotag.proofs.tag.first_offset.Tie as tie
 

@@ -1,0 +1,5 @@
+pub mod Finds
+pub mod Every
+pub mod Lengths
+pub mod Names
+pub mod Tables
