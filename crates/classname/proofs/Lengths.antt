@@ -11,7 +11,7 @@ use Rattle.wire.specs.Check.{Check, lt, eq, All}
 use Rattle.wire.proofs.Checks.{all-yes, below-or}
 use Rattle.classname.specs.Find.{firstIn}
 use Rattle.classname.specs.Name.{classes, nameOf}
-use Rattle.classname.specs.Length.{byLength, shorterIn, shorter, leaves, deciding, decidings, chosen, candidateOf, In, Leaves, Decides}
+use Rattle.classname.specs.Length.{byLength, shorterIn, shorter, leaves, decidingByte, decidingBytes, chosen, candidateOf, In, Leaves, Decides}
 use Rattle.classname.specs.declared.find.First.{First}
 use Rattle.classname.specs.declared.find.First.the-variants.{At, Nowhere}
 use Rattle.classname.proofs.Every.{each-below}
@@ -40,9 +40,9 @@ all-shorter [] m n l h = refl
 all-shorter (c ∷ cs) m n l h = rw (lt-ltb (lengthOf c) n (omega (arith, h .0))) (ap suc (all-shorter cs m n l (h .1)))
 
 -- each of the twelve is what its own length and byte leave
-pub own-candidate : (c : ℕ) → c < classes → candidateOf (lengthOf c) (deciding (nameOf c)) ≡ c
+pub own-candidate : (c : ℕ) → c < classes → candidateOf (lengthOf c) (decidingByte (nameOf c)) ≡ c
 unfolding nameOf shorterIn leaves firstIn candidateOf
-own-candidate c l = each-below (λ c. eq (candidateOf (lengthOf c) (deciding (nameOf c))) c ∷ []) classes refl c l .0
+own-candidate c l = each-below (λ c. eq (candidateOf (lengthOf c) (decidingByte (nameOf c))) c ∷ []) classes refl c l .0
 
 -- a row of those that a length leaves
 pub row : (n i : ℕ) → i < length (leaves n) → (getD (leaves n) i 0 ≡ getD byLength (shorter n + i) 0) × (shorter n + i < shorter (suc n))
@@ -54,17 +54,17 @@ row n i l =
 -- a class that is found is one of those that were looked through
 pub candidate-in : (n b : ℕ) → candidateOf n b < classes → In (candidateOf n b) (leaves n)
 unfolding candidateOf
-candidate-in n b = go (firstIn (decidings (leaves n)) b) refl
+candidate-in n b = go (firstIn (decidingBytes (leaves n)) b) refl
   where
-    go : (f : First) → firstIn (decidings (leaves n)) b ≡ f → chosen (leaves n) f < classes → In (chosen (leaves n) f) (leaves n)
-    go (At i) e l = (i, rw length-map at (first-holds (decidings (leaves n)) b i e .0), refl)
+    go : (f : First) → firstIn (decidingBytes (leaves n)) b ≡ f → chosen (leaves n) f < classes → In (chosen (leaves n) f) (leaves n)
+    go (At i) e l = (i, rw length-map at (first-holds (decidingBytes (leaves n)) b i e .0), refl)
     go Nowhere e l = absurd (omega arith)
 
 module _ (n : ℕ) where
   leaves-has : (c : ℕ) → c < classes → lengthOf c ≡ n → In c (leaves n)
   leaves-has c l e =
-      let o : candidateOf n (deciding (nameOf c)) ≡ c = rw (← e) (own-candidate c l) in
-      let h = candidate-in n (deciding (nameOf c)) (rw o l) in
+      let o : candidateOf n (decidingByte (nameOf c)) ≡ c = rw (← e) (own-candidate c l) in
+      let h = candidate-in n (decidingByte (nameOf c)) (rw o l) in
       (h .0, h .1, h .2 ∙ o)
 
   leaves-only : (c : ℕ) → In c (leaves n) → (c < classes) × (lengthOf c ≡ n)
@@ -75,11 +75,11 @@ module _ (n : ℕ) where
       let h = all-yes (less 23 byLength) refl in
       absurd (omega (arith, row n i k .1, all-shorter byLength 23 n l h, all-shorter byLength 23 (suc n) (omega arith) h))) (below-or n 23)
 
-  leaves-parted : (c d : ℕ) → In c (leaves n) → In d (leaves n) → deciding (nameOf c) ≡ deciding (nameOf d) → c ≡ d
+  leaves-parted : (c d : ℕ) → In c (leaves n) → In d (leaves n) → decidingByte (nameOf c) ≡ decidingByte (nameOf d) → c ≡ d
   leaves-parted c d x y e =
       let h = leaves-only c x in
       let k = leaves-only d y in
-      let i : candidateOf (lengthOf c) (deciding (nameOf c)) ≡ candidateOf (lengthOf d) (deciding (nameOf d)) = rw (h .1, k .1, e) in
+      let i : candidateOf (lengthOf c) (decidingByte (nameOf c)) ≡ candidateOf (lengthOf d) (decidingByte (nameOf d)) = rw (h .1, k .1, e) in
       sym (own-candidate c (h .0)) ∙ i ∙ own-candidate d (k .0)
 
 -- for every length

@@ -11,7 +11,7 @@ use Rattle.wire.specs.Equal.{eqBytes}
 use Rattle.wire.proofs.Checks.{below-or}
 use Rattle.wire.proofs.Equal.{eq-same, same-eq}
 use Rattle.classname.specs.Name.{classNames, classes, nameOf, classIn, classOf, Classified}
-use Rattle.classname.specs.Length.{deciding, candidateOf}
+use Rattle.classname.specs.Length.{decidingByte, candidateOf}
 use Rattle.classname.proofs.Lengths.{own-candidate}
 
 -- a byte string that names a class is the class's name
@@ -47,7 +47,7 @@ class-most (n ∷ ns) x = go (eqBytes x n) (class-most ns x)
 
 -- two classes with one name are one
 same-class : (c d : ℕ) → c < classes → d < classes → nameOf c ≡ nameOf d → c ≡ d
-same-class c d l m e = sym (own-candidate c l) ∙ ap (λ (x : List ℕ). candidateOf (length x) (deciding x)) e ∙ own-candidate d m
+same-class c d l m e = sym (own-candidate c l) ∙ ap (λ (x : List ℕ). candidateOf (length x) (decidingByte x)) e ∙ own-candidate d m
 
 -- for every byte string
 pub each-name : (s : List ℕ) → Classified s

@@ -12,7 +12,7 @@ use Rattle.wire.proofs.Checks.{false-true}
 use Rattle.wire.proofs.Equal.{eq-same, same-eq}
 use Rattle.classname.specs.Find.{firstIn}
 use Rattle.classname.specs.Name.{classes, nameOf, classOf}
-use Rattle.classname.specs.Length.{byLength, shorter, leaves, deciding, decidings, chosen, candidateOf, In}
+use Rattle.classname.specs.Length.{byLength, shorter, leaves, decidingByte, decidingBytes, chosen, candidateOf, In}
 use Rattle.classname.specs.declared.find.First.{First}
 use Rattle.classname.specs.declared.find.First.the-variants.{At, Nowhere}
 use Rattle.classname.proofs.Every.{every, each-below}
@@ -29,7 +29,7 @@ unfolding nameOf
 within = each-below lengths classes refl
 
 -- a length that no name has leaves none
-no-members : (cs : List ℕ) (b : ℕ) → ((c : ℕ) → In c cs → ⊥) → classes ≡ chosen cs (firstIn (decidings cs) b)
+no-members : (cs : List ℕ) (b : ℕ) → ((c : ℕ) → In c cs → ⊥) → classes ≡ chosen cs (firstIn (decidingBytes cs) b)
 unfolding firstIn
 no-members [] b h = refl
 no-members (c ∷ cs) b h = absurd (h c (0, omega arith, refl))
@@ -65,22 +65,22 @@ counted t h n l m {a} {z} i j =
       most = rw y (f .1 .1 .1 .0);
     }
 
-take-decidings : (m : ℕ) (cs : List ℕ) → take m (decidings cs) ≡ decidings (take m cs)
-take-decidings zero cs = refl
-take-decidings (suc m) [] = refl
-take-decidings (suc m) (c ∷ cs) = ap (λ (r : List ℕ). deciding (nameOf c) ∷ r) (take-decidings m cs)
+take-bytes : (m : ℕ) (cs : List ℕ) → take m (decidingBytes cs) ≡ decidingBytes (take m cs)
+take-bytes zero cs = refl
+take-bytes (suc m) [] = refl
+take-bytes (suc m) (c ∷ cs) = ap (λ (r : List ℕ). decidingByte (nameOf c) ∷ r) (take-bytes m cs)
 
-drop-decidings : (m : ℕ) (cs : List ℕ) → drop m (decidings cs) ≡ decidings (drop m cs)
-drop-decidings zero cs = refl
-drop-decidings (suc m) [] = refl
-drop-decidings (suc m) (c ∷ cs) = drop-decidings m cs
+drop-bytes : (m : ℕ) (cs : List ℕ) → drop m (decidingBytes cs) ≡ decidingBytes (drop m cs)
+drop-bytes zero cs = refl
+drop-bytes (suc m) [] = refl
+drop-bytes (suc m) (c ∷ cs) = drop-bytes m cs
 
 -- the first of the rows a to z with a byte
-module _ (n b : ℕ) {a z : ℕ} (h : Counted n a z) (t : List ℕ) (is : t ≡ decidings byLength) {y : First}
+module _ (n b : ℕ) {a z : ℕ} (h : Counted n a z) (t : List ℕ) (is : t ≡ decidingBytes byLength) {y : First}
     (found : y ≡ firstIn (take (z - a) (drop a t)) b) where
-  rows : take (z - a) (drop a t) ≡ decidings (leaves n)
+  rows : take (z - a) (drop a t) ≡ decidingBytes (leaves n)
   unfolding leaves
-  rows = rw (is, drop-decidings a byLength, take-decidings (z - a) (drop a byLength), h .first, h .end)
+  rows = rw (is, drop-bytes a byLength, take-bytes (z - a) (drop a byLength), h .first, h .end)
 
   candidate-is : candidateOf n b ≡ chosen (leaves n) y
   unfolding candidateOf

@@ -27,11 +27,11 @@ unfoldable pub leaves : ℕ → List ℕ
 leaves n = take (shorter (suc n) - shorter n) (drop (shorter n) byLength)
 
 -- the byte that differs between names of one length, 0 past a name's end; that of each class
-abbrev pub deciding : List ℕ → ℕ
-deciding name = getD name 9 0
+abbrev pub decidingByte : List ℕ → ℕ
+decidingByte name = getD name 9 0
 
-abbrev pub decidings : List ℕ → List ℕ
-decidings cs = map (λ c. deciding (nameOf c)) cs
+abbrev pub decidingBytes : List ℕ → List ℕ
+decidingBytes cs = map (λ c. decidingByte (nameOf c)) cs
 
 -- the class in a place of a list; the number after the last for none
 abbrev pub chosen : List ℕ → First → ℕ
@@ -40,7 +40,7 @@ chosen cs Nowhere = classes
 
 -- the class that a length and the byte b leave
 unfoldable pub candidateOf : ℕ → ℕ → ℕ
-candidateOf n b = chosen (leaves n) (firstIn (decidings (leaves n)) b)
+candidateOf n b = chosen (leaves n) (firstIn (decidingBytes (leaves n)) b)
 
 -- c is one of a list
 abbrev pub In : ℕ → List ℕ → Type 0
@@ -50,7 +50,7 @@ In c cs = (i : ℕ) × (i < length cs) × (getD cs i 0 ≡ c)
 pub record Leaves (n : ℕ) : Type 0 where
   pub has : (c : ℕ) → c < classes → length (nameOf c) ≡ n → In c (leaves n)
   pub only : (c : ℕ) → In c (leaves n) → (c < classes) × (length (nameOf c) ≡ n)
-  pub parted : (c d : ℕ) → In c (leaves n) → In d (leaves n) → deciding (nameOf c) ≡ deciding (nameOf d) → c ≡ d
+  pub parted : (c d : ℕ) → In c (leaves n) → In d (leaves n) → decidingByte (nameOf c) ≡ decidingByte (nameOf d) → c ≡ d
 
 -- r is the class that the length n and the byte b leave, of those that the length leaves
 pub record Decides (n b r : ℕ) : Type 0 where

@@ -5,25 +5,23 @@ use mathlib.Core.Path.{_≡_}
 use lib.ListN.{length, getD}
 use Rattle.wire.specs.Check.{pick}
 use Rattle.wire.specs.Equal.{eqBytes}
+use Rattle.wire.specs.Quoted.{bytes}
 
--- the twelve classes, in the order of their numbers: 0 TStreamerInfo, 1 TObjArray, then 002's list, of kinds 1 to 10:
--- TStreamerBase, TStreamerBasicType, TStreamerString, TStreamerBasicPointer, TStreamerObject, TStreamerObjectPointer,
--- TStreamerLoop, TStreamerObjectAny, TStreamerSTL, TStreamerSTLString
+-- the twelve classes, in the order of their numbers: of the list's objects, of their arrays, then 002's list, of kinds 1 to 10
 abbrev pub classNames : List (List ℕ)
 classNames =
-    (84 ∷ 83 ∷ 116 ∷ 114 ∷ 101 ∷ 97 ∷ 109 ∷ 101 ∷ 114 ∷ 73 ∷ 110 ∷ 102 ∷ 111 ∷ [])
-    ∷ (84 ∷ 79 ∷ 98 ∷ 106 ∷ 65 ∷ 114 ∷ 114 ∷ 97 ∷ 121 ∷ [])
-    ∷ (84 ∷ 83 ∷ 116 ∷ 114 ∷ 101 ∷ 97 ∷ 109 ∷ 101 ∷ 114 ∷ 66 ∷ 97 ∷ 115 ∷ 101 ∷ [])
-    ∷ (84 ∷ 83 ∷ 116 ∷ 114 ∷ 101 ∷ 97 ∷ 109 ∷ 101 ∷ 114 ∷ 66 ∷ 97 ∷ 115 ∷ 105 ∷ 99 ∷ 84 ∷ 121 ∷ 112 ∷ 101 ∷ [])
-    ∷ (84 ∷ 83 ∷ 116 ∷ 114 ∷ 101 ∷ 97 ∷ 109 ∷ 101 ∷ 114 ∷ 83 ∷ 116 ∷ 114 ∷ 105 ∷ 110 ∷ 103 ∷ [])
-    ∷ (84 ∷ 83 ∷ 116 ∷ 114 ∷ 101 ∷ 97 ∷ 109 ∷ 101 ∷ 114 ∷ 66 ∷ 97 ∷ 115 ∷ 105 ∷ 99 ∷ 80 ∷ 111 ∷ 105 ∷ 110 ∷ 116 ∷ 101 ∷ 114 ∷ [])
-    ∷ (84 ∷ 83 ∷ 116 ∷ 114 ∷ 101 ∷ 97 ∷ 109 ∷ 101 ∷ 114 ∷ 79 ∷ 98 ∷ 106 ∷ 101 ∷ 99 ∷ 116 ∷ [])
-    ∷ (84 ∷ 83 ∷ 116 ∷ 114 ∷ 101 ∷ 97 ∷ 109 ∷ 101 ∷ 114 ∷ 79 ∷ 98 ∷ 106 ∷ 101 ∷ 99 ∷ 116 ∷ 80 ∷ 111 ∷ 105 ∷ 110 ∷ 116 ∷ 101 ∷ 114 ∷ [])
-    ∷ (84 ∷ 83 ∷ 116 ∷ 114 ∷ 101 ∷ 97 ∷ 109 ∷ 101 ∷ 114 ∷ 76 ∷ 111 ∷ 111 ∷ 112 ∷ [])
-    ∷ (84 ∷ 83 ∷ 116 ∷ 114 ∷ 101 ∷ 97 ∷ 109 ∷ 101 ∷ 114 ∷ 79 ∷ 98 ∷ 106 ∷ 101 ∷ 99 ∷ 116 ∷ 65 ∷ 110 ∷ 121 ∷ [])
-    ∷ (84 ∷ 83 ∷ 116 ∷ 114 ∷ 101 ∷ 97 ∷ 109 ∷ 101 ∷ 114 ∷ 83 ∷ 84 ∷ 76 ∷ [])
-    ∷ (84 ∷ 83 ∷ 116 ∷ 114 ∷ 101 ∷ 97 ∷ 109 ∷ 101 ∷ 114 ∷ 83 ∷ 84 ∷ 76 ∷ 83 ∷ 116 ∷ 114 ∷ 105 ∷ 110 ∷ 103 ∷ [])
-    ∷ []
+    bytes "TStreamerInfo"
+    ∷ bytes "TObjArray"
+    ∷ bytes "TStreamerBase"
+    ∷ bytes "TStreamerBasicType"
+    ∷ bytes "TStreamerString"
+    ∷ bytes "TStreamerBasicPointer"
+    ∷ bytes "TStreamerObject"
+    ∷ bytes "TStreamerObjectPointer"
+    ∷ bytes "TStreamerLoop"
+    ∷ bytes "TStreamerObjectAny"
+    ∷ bytes "TStreamerSTL"
+    ∷ bytes "TStreamerSTLString" ∷ []
 
 -- how many there are
 abbrev pub classes : ℕ

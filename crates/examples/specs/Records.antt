@@ -8,6 +8,7 @@ use Rattle.wire.specs.Check.{pick}
 use Rattle.wire.specs.Layout.{widthOf, extent, valueBytes}
 use Rattle.wire.specs.Name.{tFile, tList, streamerInfo}
 use Rattle.wire.specs.Number.{beBytes}
+use Rattle.wire.specs.Quoted.{bytes}
 use Rattle.wire.specs.Text.{textBytes}
 use Rattle.key.specs.Writer.{headerBytes, sumBytes}
 use Rattle.fileheader.specs.File.{fileLayout}
@@ -34,16 +35,15 @@ keyBytes version n seekkey seekpdir class name title =
     })
     class name title
 
--- "TObjString"
 abbrev pub tObjString : List ℕ
-tObjString = 84 ∷ 79 ∷ 98 ∷ 106 ∷ 83 ∷ 116 ∷ 114 ∷ 105 ∷ 110 ∷ 103 ∷ []
+tObjString = bytes "TObjString"
 
 -- one.root's head key, at 100 with its name, title and directory header as data, and that of its object "x", with 10 bytes
 abbrev pub headKey : Bool → List ℕ
-headKey wide = keyBytes (inForm wide 4) (3 + extent (dirLayout (widthOf wide))) 100 0 tFile (97 ∷ []) []
+headKey wide = keyBytes (inForm wide 4) (3 + extent (dirLayout (widthOf wide))) 100 0 tFile (bytes "a") []
 
 abbrev pub objectKey : Bool → ℕ → List ℕ
-objectKey wide object = keyBytes (inForm wide 4) 10 object 100 tObjString (120 ∷ []) []
+objectKey wide object = keyBytes (inForm wide 4) 10 object 100 tObjString (bytes "x") []
 
 -- one.root in the wide form or not, with dates of 0: the places of its pieces and END, and the last of its two segments
 abbrev pub rootFile : Bool → ℕ → ℕ → ℕ → ℕ → ℕ → ℕ → ℕ → List ℕ
@@ -55,16 +55,16 @@ rootFile wide object keys gap free end last final =
     (1919905652 ∷ pick wide 1062400 62400 ∷ 100 ∷ end ∷ free ∷ (end - free) ∷ 2 ∷ name ∷ w ∷ 1 ∷ 0 ∷ 0 ∷ [])
     ++ replicate (100 - extent (fileLayout w)) 0
     -- 100: the head, its name and title, its directory header
-    ++ headKey wide ++ textBytes (97 ∷ []) ++ textBytes []
+    ++ headKey wide ++ textBytes (bytes "a") ++ textBytes []
     ++ valueBytes (dirLayout w) (inForm wide 5 ∷ 0 ∷ 0 ∷ (gap - keys) ∷ name ∷ 100 ∷ 0 ∷ keys ∷ [])
     -- "x"
     ++ objectKey wide object ++ replicate 10 7
     -- the keys list, with one copy
-    ++ keyBytes (inForm wide 4) (4 + length (objectKey wide object)) keys 100 tFile (97 ∷ []) [] ++ beBytes 4 1 ++ objectKey wide object
+    ++ keyBytes (inForm wide 4) (4 + length (objectKey wide object)) keys 100 tFile (bytes "a") [] ++ beBytes 4 1 ++ objectKey wide object
     -- a gap of 12 bytes, which begins with −12
     ++ beBytes 4 4294967284 ++ replicate 8 0
     -- the free list
-    ++ keyBytes (inForm wide 4) (2 * extent (segmentLayout w)) free 100 tFile (97 ∷ []) []
+    ++ keyBytes (inForm wide 4) (2 * extent (segmentLayout w)) free 100 tFile (bytes "a") []
     ++ valueBytes (segmentLayout w) (inForm wide 1 ∷ gap ∷ last ∷ []) ++ valueBytes (segmentLayout w) (inForm wide 1 ∷ end ∷ final ∷ [])
 
 -- one.root with this last of its gap's segment, and the same file in the wide form with this last of its final segment
@@ -76,7 +76,7 @@ wideRoot final = rootFile true 188 246 341 353 432 352 final
 
 -- a record at 0 whose name has n bytes: its key, of class "A", is all of it
 abbrev pub longName : ℕ → List ℕ
-longName n = keyBytes 4 0 0 0 (65 ∷ []) (replicate n 66) []
+longName n = keyBytes 4 0 0 0 (bytes "A") (replicate n 66) []
 
 -- an object: its ByteCount and its bytes
 abbrev pub object : List ℕ → List ℕ
@@ -127,20 +127,20 @@ list n classes = object (beBytes 2 3 ++ tObject ++ textBytes [] ++ beBytes 4 n +
 abbrev pub infoRecord : ℕ → List ℕ → List ℕ
 infoRecord version x =
     keyBytes version (length x) 0 0 tList streamerInfo
-    (68 ∷ 111 ∷ 117 ∷ 98 ∷ 108 ∷ 121 ∷ 32 ∷ 108 ∷ 105 ∷ 110 ∷ 107 ∷ 101 ∷ 100 ∷ 32 ∷ 108 ∷ 105 ∷ 115 ∷ 116 ∷ []) ++ x
+    (bytes "Doubly linked list") ++ x
 
 -- two classes: A without elements, and B, whose tag is a reference (or another number v), with the base x
 abbrev pub twoClasses : ℕ → ℕ → List ℕ
 twoClasses version v =
     infoRecord version
     (list 2
-    (class (newTag 0) (65 ∷ []) (array (newTag 1) 0 [])
-    ++ class (reference v) (66 ∷ [])
-    (array (reference (v + 55)) 1 (element 1 (120 ∷ []) (66 ∷ 65 ∷ 83 ∷ 69 ∷ []) 0 0 (beBytes 4 7)))))
+    (class (newTag 0) (bytes "A") (array (newTag 1) 0 [])
+    ++ class (reference v) (bytes "B")
+    (array (reference (v + 55)) 1 (element 1 (bytes "x") (bytes "BASE") 0 0 (beBytes 4 7)))))
 
 -- fCountVersion, fCountName "n", fCountClass "A"
 abbrev pub counter : List ℕ
-counter = beBytes 4 1 ++ textBytes (110 ∷ []) ++ textBytes (65 ∷ [])
+counter = beBytes 4 1 ++ textBytes (bytes "n") ++ textBytes (bytes "A")
 
 -- the element of a kind, named a, b, c .. of type A, B, C ..
 abbrev pub ofKind : ℕ → List ℕ → List ℕ
@@ -151,7 +151,7 @@ abbrev pub tenKinds : List ℕ
 tenKinds =
     infoRecord 4
     (list 1
-    (class (newTag 0) (65 ∷ [])
+    (class (newTag 0) (bytes "A")
     (array (newTag 1) 10
     (ofKind 1 (beBytes 4 7) ++ ofKind 2 [] ++ ofKind 3 [] ++ ofKind 4 counter ++ ofKind 5 [] ++ ofKind 6 [] ++ ofKind 7 counter
     ++ ofKind 8 [] ++ ofKind 9 (beBytes 4 1 ++ beBytes 4 2) ++ ofKind 10 []))))

@@ -121,7 +121,8 @@ module _ (f : Fields) (class name title buf : List ℕ) where
     room-there = omega (arith, out-long, h .room, key-limits f class name title (h .key))
 
     -- a string of the header, where it was written; what follows it in the header takes n bytes
-    string-there : (q : ℕ) (t rest : List ℕ) (n : ℕ) → length t < 255 → q + textSize (length t) + n ≡ f .seekkey + sumBytes (f .version) class name title
+    string-there : (q : ℕ) (t rest : List ℕ) (n : ℕ) → length t < 255
+        → q + textSize (length t) + n ≡ f .seekkey + sumBytes (f .version) class name title
         → drop q out ≡ textBytes t ++ rest
         → (Held (textOf q (length t)) ≡ textIn out q end) × (contentOf out (textOf q (length t)) ≡ t)
         × (drop (q + textSize (length t)) out ≡ rest)

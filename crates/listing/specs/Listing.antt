@@ -1,11 +1,12 @@
 -- What the list program prints: document 01, "The list program".
 use Prim.Native.Nat.{ℕ, _-_, _≤_, _<_}
-use mathlib.Core.List.{List, [], _∷_}
+use mathlib.Core.List.{List}
 use mathlib.Core.Path.{_≡_}
 use lib.Dec.{leb}
 use lib.ListN.{length, getD, take}
 use Rattle.wire.specs.Answer.{done}
 use Rattle.wire.specs.Check.{pick}
+use Rattle.wire.specs.Quoted.{bytes}
 use Rattle.wire.specs.declared.Answer.{Answer}
 use Rattle.table.specs.Table.{filled}
 use Rattle.key.specs.Piece.{pieceAt, sizeOf}
@@ -24,7 +25,7 @@ reported s v =
 
 -- "input too long", and a newline
 abbrev pub tooLong : List ℕ
-tooLong = 105 ∷ 110 ∷ 112 ∷ 117 ∷ 116 ∷ 32 ∷ 116 ∷ 111 ∷ 111 ∷ 32 ∷ 108 ∷ 111 ∷ 110 ∷ 103 ∷ 10 ∷ []
+tooLong = bytes "input too long\n"
 
 -- the bytes of standard input that are taken (document 02, request 02)
 abbrev pub inputLimit : ℕ

@@ -8,6 +8,7 @@ use Rattle.wire.specs.Answer.{done, refusal}
 use Rattle.wire.specs.Check.{pick}
 use Rattle.wire.specs.Number.{lesser}
 use Rattle.wire.specs.Patch.{patch}
+use Rattle.wire.specs.Quoted.{bytes}
 use Rattle.wire.specs.declared.Answer.{Answer}
 
 -- the decimal digits of a number, at most k of them, no leading zero
@@ -29,19 +30,18 @@ closed x = x ++ (10 ∷ [])
 -- "Parts: 0 gap, 1 head, 2 free, 3 info, 4 keys, 5 listed, 6 dir, 7 unlisted"
 abbrev pub partNames : List (List ℕ)
 partNames =
-    (103 ∷ 97 ∷ 112 ∷ [])
-    ∷ (104 ∷ 101 ∷ 97 ∷ 100 ∷ [])
-    ∷ (102 ∷ 114 ∷ 101 ∷ 101 ∷ [])
-    ∷ (105 ∷ 110 ∷ 102 ∷ 111 ∷ [])
-    ∷ (107 ∷ 101 ∷ 121 ∷ 115 ∷ [])
-    ∷ (108 ∷ 105 ∷ 115 ∷ 116 ∷ 101 ∷ 100 ∷ [])
-    ∷ (100 ∷ 105 ∷ 114 ∷ [])
-    ∷ (117 ∷ 110 ∷ 108 ∷ 105 ∷ 115 ∷ 116 ∷ 101 ∷ 100 ∷ [])
-    ∷ []
+    bytes "gap"
+    ∷ bytes "head"
+    ∷ bytes "free"
+    ∷ bytes "info"
+    ∷ bytes "keys"
+    ∷ bytes "listed"
+    ∷ bytes "dir"
+    ∷ bytes "unlisted" ∷ []
 
 -- "unknown" for any other number, which no audit gives
 unfoldable pub partName : ℕ → List ℕ
-partName k = getD partNames k (117 ∷ 110 ∷ 107 ∷ 110 ∷ 111 ∷ 119 ∷ 110 ∷ [])
+partName k = getD partNames k (bytes "unknown")
 
 -- "a line a piece (place, size, part, owner)"
 unfoldable pub line : ℕ → ℕ → ℕ → ℕ → List ℕ
@@ -61,15 +61,15 @@ unfoldable pub lines : List ℕ → List ℕ → List ℕ → ℕ → ℕ → �
 lines start part owner n end zero = []
 lines start part owner n end (suc k) = lines start part owner n end k ++ row start part owner n end k
 
--- the words "passed", "unfinished", "refused"
+-- what the first line begins with
 abbrev pub passed : List ℕ
-passed = 112 ∷ 97 ∷ 115 ∷ 115 ∷ 101 ∷ 100 ∷ []
+passed = bytes "passed"
 
 abbrev pub unfinished : List ℕ
-unfinished = 117 ∷ 110 ∷ 102 ∷ 105 ∷ 110 ∷ 105 ∷ 115 ∷ 104 ∷ 101 ∷ 100 ∷ []
+unfinished = bytes "unfinished"
 
 abbrev pub refused : List ℕ
-refused = 114 ∷ 101 ∷ 102 ∷ 117 ∷ 115 ∷ 101 ∷ 100 ∷ []
+refused = bytes "refused"
 
 -- "prints `passed N` .. or `refused NUMBER PLACE`, `unfinished PIECES`": a pass is 0, unfinished 7
 unfoldable pub heading : Answer → List ℕ

@@ -6,4 +6,5 @@ pub mod Lent
 pub mod Name
 pub mod Number
 pub mod Patch
+pub mod Quoted
 pub mod Text

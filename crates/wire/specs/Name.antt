@@ -1,16 +1,16 @@
 -- Names of the format, as bytes.
 use Prim.Native.Nat.{ℕ}
-use mathlib.Core.List.{List, [], _∷_}
+use mathlib.Core.List.{List}
+use Rattle.wire.specs.Quoted.{bytes}
 
--- "TFile", "TDirectory", "TList", "StreamerInfo"
 abbrev pub tFile : List ℕ
-tFile = 84 ∷ 70 ∷ 105 ∷ 108 ∷ 101 ∷ []
+tFile = bytes "TFile"
 
 abbrev pub tDirectory : List ℕ
-tDirectory = 84 ∷ 68 ∷ 105 ∷ 114 ∷ 101 ∷ 99 ∷ 116 ∷ 111 ∷ 114 ∷ 121 ∷ []
+tDirectory = bytes "TDirectory"
 
 abbrev pub tList : List ℕ
-tList = 84 ∷ 76 ∷ 105 ∷ 115 ∷ 116 ∷ []
+tList = bytes "TList"
 
 abbrev pub streamerInfo : List ℕ
-streamerInfo = 83 ∷ 116 ∷ 114 ∷ 101 ∷ 97 ∷ 109 ∷ 101 ∷ 114 ∷ 73 ∷ 110 ∷ 102 ∷ 111 ∷ []
+streamerInfo = bytes "StreamerInfo"

@@ -29,9 +29,6 @@ part-first-byte-start c = rows (c .before) .rising
 part-first-byte-end : tie.Need-part-first-byte-end
 part-first-byte-end c = rows (c .before) .most
 
-enum-told : tie.Need-enum-told
-enum-told c = search needs
-
 returns-3 : tie.Need-returns-3
 unfolding nameOf
 returns-3 c =
@@ -57,5 +54,5 @@ candidate-spec =
     tie.close
     (tie.spec
     returns returns-2 (search needs) (search needs) (search needs) (search needs) (search needs) (search needs) (search needs)
-    sub-first-byte part-first-byte-start part-first-byte-end (search needs) (search needs) enum-told returns-3 (search needs) add-be8-2
+    sub-first-byte part-first-byte-start part-first-byte-end (search needs) (search needs) (search needs) returns-3 (search needs) add-be8-2
     (search needs) (search needs) returns-4)
