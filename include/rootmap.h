@@ -39,7 +39,7 @@
 #define ROOTMAP_KEYS 12       /* a directory's keys list is bad */
 #define ROOTMAP_ENTRY 13      /* a copy in a keys list is not that of a record of the directory */
 #define ROOTMAP_TWICE 14      /* a record that a directory has as its list, or lists, has a part already */
-#define ROOTMAP_NAME 15       /* a string is longer than 254 bytes */
+#define ROOTMAP_NAME 15       /* KeyLen would be above 32,767: the three strings are too long together */
 #define ROOTMAP_FIELD 16      /* the key header would not be well formed, or a value does not fit its field */
 #define ROOTMAP_ROOM 17       /* SeekKey + Nbytes lies beyond the buffer */
 #define ROOTMAP_DATE 18       /* a date field is not in its range */
@@ -92,7 +92,9 @@ void rootmap_unpack_date(uint32_t packed, uint32_t fields[6]);
  *    9  class start   10  class length
  *   11  name start    12  name length
  *   13  title start   14  title length
- * where a start is the offset in the file of the string's first byte, after its length byte.
+ * where a start is the offset in the file of the first byte of the string's content, after its
+ * length, which takes one byte, or five (the byte 255, then four) where it is 255 or more. KeyLen is
+ * at most 32,767.
  *
  * A gap: 0, place 0, count its size, and fields holds 2, the size, and thirteen zeros.
  *
@@ -104,11 +106,12 @@ uint64_t rootmap_read_piece(const uint8_t *file, size_t file_len, uint64_t at, u
 /*
  * Writes a plain key header into buf at seek_key. Its version is 1 to 2000; above 1000 SeekKey and
  * SeekPdir take eight bytes each, else four. KeyLen is 26, or 34 with a version above 1000, plus the
- * three strings, each with its length byte.
+ * three strings, each with its length: one byte, or the byte 255 and four for 255 bytes and more.
  *
  * Success: 0, place 0, count KeyLen, and exactly the KeyLen bytes of buf from seek_key are written.
- * Refused: 15, 16 or 17, the first that applies, place 0, count 0, and buf is as it was. 17 asks
- * room for the whole record, seek_key + nbytes; a record that ends where buf ends fits.
+ * Refused: 15, 16 or 17, the first that applies, place 0, count 0, and buf is as it was. 15 is a
+ * KeyLen above 32,767 and nothing else: no string has a limit of its own. 17 asks room for the whole
+ * record, seek_key + nbytes; a record that ends where buf ends fits.
  */
 uint64_t rootmap_write_key(uint32_t nbytes, uint32_t version, uint32_t objlen, uint32_t datime, int32_t cycle,
                            uint64_t seek_key, uint64_t seek_pdir, const uint8_t *class_name, size_t class_len,
@@ -148,8 +151,8 @@ uint64_t rootmap_audit(const uint8_t *file, size_t file_len, uint64_t *start, si
  *    1  its kind, 1 to 10: TStreamerBase, TStreamerBasicType, TStreamerString, TStreamerBasicPointer,
  *       TStreamerObject, TStreamerObjectPointer, TStreamerLoop, TStreamerObjectAny, TStreamerSTL,
  *       TStreamerSTLString
- *    2  the offset in the record of its name's length byte
- *    3  the offset in the record of its type name's length byte
+ *    2  the offset in the record of its name's first length byte
+ *    3  the same of its type name
  *    4  fType
  *    5  fArrayLength
  * Later entries are 0, to the table's end.

@@ -3,6 +3,7 @@
 use crate::model::key::NewKey;
 use crate::model::width;
 use fields::low_bytes;
+use strings::{any_length, counted, length_size};
 
 pub mod faults;
 pub mod fields;
@@ -12,6 +13,7 @@ pub mod infos;
 pub mod mixes;
 pub mod nested;
 pub mod shapes;
+pub mod strings;
 
 /// The splitmix64 generator.
 pub struct Rng(u64);
@@ -58,7 +60,7 @@ impl Rng {
 }
 
 /// A key header to lay down as it stands, well formed or not. Of an offset as much is laid down as the version has
-/// bytes for, and a string of 255 bytes gets the length byte 255.
+/// bytes for, and a string is laid down in the form of its length.
 #[derive(Clone, Debug)]
 pub struct RawKey {
     pub nbytes: u32,
@@ -80,10 +82,15 @@ impl RawKey {
 
     /// What the header takes.
     pub fn sum(&self) -> usize {
-        self.strings.iter().fold(18 + 2 * self.width(), |sum, string| sum + 1 + string.len())
+        self.strings.iter().fold(18 + 2 * self.width(), |sum, string| sum + length_size(string.len()) + string.len())
     }
 
     pub fn header(&self) -> Vec<u8> {
+        self.header_with(&self.strings.each_ref().map(|string| counted(string)))
+    }
+
+    /// The header with these in the place of its strings and their lengths.
+    pub fn header_with(&self, strings: &[Vec<u8>; 3]) -> Vec<u8> {
         let mut bytes = Vec::with_capacity(self.sum());
         bytes.extend(self.nbytes.to_be_bytes());
         bytes.extend(self.version.to_be_bytes());
@@ -94,10 +101,7 @@ impl RawKey {
         for offset in [self.seek_key, self.seek_pdir] {
             bytes.extend(low_bytes(offset, self.width()));
         }
-        for string in &self.strings {
-            bytes.push(string.len() as u8);
-            bytes.extend(string);
-        }
+        strings.iter().for_each(|string| bytes.extend(string));
         bytes
     }
 
@@ -127,16 +131,6 @@ impl RawKey {
     }
 }
 
-/// Mostly short, now and then up to the longest.
-fn string_length(rng: &mut Rng) -> usize {
-    match rng.below(16) {
-        0 => 0,
-        1 => rng.pick(&[1, 253, 254]),
-        2 => rng.below(255),
-        _ => rng.below(12),
-    }
-}
-
 /// A key of a plain record at `at`, with strings of these lengths and `data` bytes of data.
 pub fn plain_key_of(rng: &mut Rng, at: u64, lengths: [usize; 3], data: usize) -> RawKey {
     let version = 1 + rng.below(width::MOST as usize) as u16;
@@ -163,7 +157,7 @@ pub fn versioned_key(rng: &mut Rng, version: u16, at: u64, lengths: [usize; 3], 
 
 /// A key of a plain record at `at`.
 pub fn plain_key(rng: &mut Rng, at: u64) -> RawKey {
-    let lengths = [0; 3].map(|_| string_length(rng));
+    let lengths = [0; 3].map(|_| any_length(rng));
     let data = rng.below(80);
     plain_key_of(rng, at, lengths, data)
 }
@@ -212,7 +206,8 @@ pub fn damage(rng: &mut Rng, file: &mut Vec<u8>, at: usize) {
         0..=2 => file[place] = rng.u64() as u8,
         3 => file[place] ^= 1 << rng.below(8),
         4 => {
-            let near = rng.pick(&[0u32, 1, 4, 29, 37, 255, 1000, 2000, 65535, 0x7fff_ffff, 0x8000_0000, u32::MAX]);
+            let near =
+                rng.pick(&[0u32, 1, 4, 29, 37, 255, 1000, 2000, 32767, 65535, 0x7fff_ffff, 0x8000_0000, u32::MAX]);
             let number = near.wrapping_add(rng.below(3) as u32).wrapping_sub(1).to_be_bytes();
             let fits = number.len().min(file.len() - place);
             file[place..place + fits].copy_from_slice(&number[..fits]);

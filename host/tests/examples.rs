@@ -2,7 +2,7 @@
 
 use kirovadzun_host::compare::{pack_date, read_piece, unpack_date, write_key, Tally};
 use kirovadzun_host::ffi::{self, Answer};
-use kirovadzun_host::gen::{one_root, plain_key_of, Rng};
+use kirovadzun_host::gen::{one_root, versioned_key, Rng};
 use kirovadzun_host::model::key::NewKey;
 
 fn answer(number: u64, place: u64, count: u64) -> Answer {
@@ -55,7 +55,7 @@ fn sums() {
         assert_eq!(write_key(&mut tally, &key, &vec![7; sum as usize - 1]).0, answer(17, 0, 0));
         let short = NewKey { nbytes: sum as u32 - 1, ..key };
         assert_eq!(write_key(&mut tally, &short, &[]).0, answer(16, 0, 0));
-        let long = NewKey { name: &[b'x'; 255], ..short };
+        let long = NewKey { name: &[b'x'; 32_768], ..short };
         assert_eq!(write_key(&mut tally, &long, &[]).0, answer(15, 0, 0));
         // An offset past 32 bits: 16 in a narrow key; in a wide one SeekPdir is taken, and SeekKey is past the buffer.
         for far in [1 << 32, u64::MAX] {
@@ -68,16 +68,21 @@ fn sums() {
     tally.finish(64, &[0, 15, 16, 17]);
 }
 
+/// Names of 254, 255 and 256 bytes, all taken.
 #[test]
 fn name_lengths() {
     let mut tally = Tally::new("examples, name lengths");
     let mut rng = Rng::new(30);
-    for (len, number) in [(254, 0), (255, 6)] {
-        let record = plain_key_of(&mut rng, 0, [5, len, 0], 3).record(&mut rng);
-        let count = if number == 0 { record.len() as u64 } else { 0 };
-        assert_eq!(read_piece(&mut tally, &record, 0).0, answer(number, 0, count));
+    for (len, length_bytes) in [(254, 1), (255, 5), (256, 5)] {
+        let key = versioned_key(&mut rng, 4, 0, [5, len, 0], 3);
+        let sum = 26 + 6 + length_bytes + len as u64 + 1;
+        let (read, fields) = read_piece(&mut tally, &key.record(&mut rng), 0);
+        assert_eq!((read, fields[ffi::KEYLEN]), (answer(0, 0, sum + 3), sum));
+        assert_eq!(fields[ffi::NAME..ffi::TITLE], [26 + 6 + length_bytes, len as u64]);
+        let written = write_key(&mut tally, &key.to_write(), &vec![7; sum as usize + 3]);
+        assert_eq!(written, (answer(0, 0, sum), [key.header(), vec![7; 3]].concat()));
     }
-    tally.finish(2, &[0, 6]);
+    tally.finish(6, &[0]);
 }
 
 #[test]

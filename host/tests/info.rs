@@ -8,6 +8,7 @@ use kirovadzun_host::ffi::Answer;
 use kirovadzun_host::gen::infos::{
     all_kinds, build, build_of, class, classes, get32, new_tag, put32, Class, Field, Info, What,
 };
+use kirovadzun_host::gen::strings::{counted, long_form};
 use kirovadzun_host::gen::{self, Rng};
 use kirovadzun_host::model::streamer::{ARRAY, CLASS_MASK, INFO, KINDS, NEW_CLASS, REFERENCED};
 use std::fs;
@@ -290,19 +291,19 @@ fn references() {
 fn fields() {
     let mut tally = Tally::new("read_info, each field changed");
     let mut rng = Rng::new(208);
-    let text = |len: usize| [vec![len as u8], vec![b'x'; len]].concat();
+    let text = |len: usize| counted(&vec![b'x'; len]);
     for (classes, info) in samples(208) {
         for (index, field) in info.fields.iter().enumerate() {
             let mut with = |bytes: &[u8]| build(&mut rng, 0, &classes, Some((index, bytes))).bytes;
             match field.what {
                 What::NoName => {
-                    for len in [1, 2, 254, 255] {
+                    for len in [1, 2, 254, 255, 256] {
                         refused(&mut tally, &with(&text(len)), 21, field.at, "a name");
                     }
                 }
                 What::String => {
-                    refused(&mut tally, &with(&text(255)), 21, field.at, "255 bytes");
-                    for len in [0, 1, 253, 254] {
+                    refused(&mut tally, &with(&long_form(254, &[b'x'; 254])), 21, field.at, "the long form");
+                    for len in [0, 1, 253, 254, 255, 256] {
                         assert_eq!(read(&mut tally, &with(&text(len))), Answer::success(16));
                     }
                 }

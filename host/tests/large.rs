@@ -1,11 +1,12 @@
-//! Sizes near 2^31 and places near 2^32, in lent memory that is truly so long.
+//! Sizes near 2^31, places and strings near 2^32, in lent memory that is truly so long.
 
 mod zeros;
 
 use kirovadzun_host::compare::{answer_of, read_piece, Tally};
-use kirovadzun_host::ffi::{self, Answer};
-use kirovadzun_host::gen::{versioned_key, Rng};
-use kirovadzun_host::model::key;
+use kirovadzun_host::ffi::{self, number, Answer};
+use kirovadzun_host::gen::strings::{counted, long_form};
+use kirovadzun_host::gen::{versioned_key, RawKey, Rng};
+use kirovadzun_host::model::key::{self, NewKey};
 use zeros::{Zeros, LEN};
 
 const WIDE: usize = 1 << 32;
@@ -101,4 +102,53 @@ fn far_headers(tally: &mut Tally, rng: &mut Rng, zeros: &mut Zeros) {
             zeros.put(at - 300, &before[1]);
         }
     }
+}
+
+/// Strings so long that their sum is above 32,767, some with a low half of the sum or of a length that is not.
+#[test]
+fn huge_strings_to_write() {
+    let Some(mut zeros) = Zeros::new() else { return };
+    let text: &[u8] = zeros.bytes();
+    let mut tally = Tally::new("write_key, strings of up to 2^32 bytes and more");
+    let far = [32_768, 65_535, 1 << 16, (1 << 31) - 1, 1 << 31, WIDE - 1, WIDE, WIDE + 300, WIDE + 4000];
+    // With these alone the sum is 2^16 or 2^32 and some bytes.
+    let near = [1 << 16, WIDE].into_iter().flat_map(|power| (0..45).map(move |less| power - less));
+    for len in far.into_iter().chain(near) {
+        for lengths in [[len, 0, 0], [0, len, 0], [0, 0, len], [len; 3], [len, 5, len], [1 << 31, 1 << 31, len]] {
+            for version in [4, 1004, 2001] {
+                let [class, name, title] = lengths.map(|len| &text[..len]);
+                let base = RawKey { nbytes: 40, ..versioned_key(&mut Rng::new(41), version, 0, [0; 3], 0) };
+                let key = NewKey { class, name, title, ..base.to_write() };
+                let (mut library, mut second) = ([7; 40], [7; 40]);
+                let got = answer_of(9, |place, count| ffi::write_key(&key, &mut library, place, count));
+                let answers = [got, key::write_key(&key, &mut second)];
+                assert_eq!(answers, [Answer::refusal(number::NAME, 0); 2], "{lengths:?}");
+                assert_eq!([library, second], [[7; 40]; 2], "{lengths:?}");
+                tally.add(got.number);
+            }
+        }
+    }
+    tally.finish(1_782, &[number::NAME]);
+}
+
+/// Strings in the long form that a record holds, of so great a length that the sum is above 32,767, though the low
+/// half of it is KeyLen. Where nothing is added to that half, they are taken.
+#[test]
+fn huge_strings_to_read() {
+    let Some(mut zeros) = Zeros::new() else { return };
+    let mut tally = Tally::new("read_piece, strings of up to 2^31 bytes");
+    let nbytes = i32::MAX as u32;
+    for (version, nth) in [4, 1004].into_iter().flat_map(|version| (0..3).map(move |nth| (version, nth))) {
+        for high in [0, 1 << 16, 1 << 20, 1 << 30, (1 << 31) - (1 << 16)] {
+            let mut stored = [counted(b""), counted(b""), counted(b"")];
+            stored[nth] = long_form(high + 300, &[]);
+            let mut key = RawKey { nbytes, ..versioned_key(&mut Rng::new(42), version, 0, [0; 3], 0) };
+            key.keylen = (key.header_with(&stored).len() + 300) as u16;
+            zeros.put(0, &key.header_with(&stored));
+            let (answer, _) = read_piece(&mut tally, zeros.bytes(), 0);
+            let refused = Answer::refusal(number::KEY, 0);
+            assert_eq!(answer, if high == 0 { Answer::success(nbytes.into()) } else { refused }, "{version} {high}");
+        }
+    }
+    tally.finish(30, &[0, number::KEY]);
 }

@@ -3,8 +3,8 @@
 use kirovadzun_host::compare::{read_piece, Tally};
 use kirovadzun_host::gen::{self, RawKey, Rng};
 
-/// Lengths of strings around their limit.
-const LENGTHS: [usize; 5] = [0, 1, 253, 254, 255];
+/// Lengths of strings around the least that four bytes count.
+const LENGTHS: [usize; 5] = [0, 1, 254, 255, 256];
 
 /// Places at and past the end of any file that fits in memory, or that wrap onto `at`.
 fn far_places(at: u64, len: u64) -> Vec<u64> {
@@ -130,12 +130,13 @@ fn several_limits_at_once() {
 
 #[test]
 fn longest_key() {
-    let mut tally = Tally::new("read_piece, KeyLen near 65535");
+    let mut tally = Tally::new("read_piece, KeyLen near 32767 and 65535");
     let mut rng = Rng::new(12);
-    for version in [1000, 1001] {
-        let base = gen::versioned_key(&mut rng, version, 3, [254; 3], 65535);
-        for keylen in [790, 791, 792, 798, 799, 800, 32767, 32768, 65534, 65535] {
-            for nbytes in [65533, 65534, 65535, 65536, 65535 + 791] {
+    for (version, length) in [(1000, 254), (1001, 254), (1000, 255), (1001, 255)] {
+        let base = gen::versioned_key(&mut rng, version, 3, [length; 3], 65535);
+        let sum = base.sum() as u16;
+        for keylen in [sum - 1, sum, sum + 1, 32766, 32767, 32768, 65534, 65535] {
+            for nbytes in [32766, 32767, 32768, 65534, 65535, 65536, base.nbytes] {
                 let key = RawKey { keylen, nbytes, ..base.clone() };
                 let file = file_with(&mut rng, 3, &key, 2);
                 for len in [file.len() - 3, file.len() - 2, file.len()] {
@@ -144,7 +145,7 @@ fn longest_key() {
             }
         }
     }
-    tally.finish(200, &[0, 5, 6]);
+    tally.finish(672, &[0, 5, 6]);
 }
 
 #[test]
@@ -180,7 +181,7 @@ fn single_byte_changes() {
     for at in [0, 100] {
         let mut keys = Vec::new();
         for version in [4, 1004] {
-            for (lengths, data) in [([0, 0, 0], 0), ([5, 1, 0], 33), ([10, 1, 12], 10)] {
+            for (lengths, data) in [([0, 0, 0], 0), ([5, 1, 0], 33), ([10, 1, 12], 10), ([0, 255, 1], 6)] {
                 keys.push(gen::versioned_key(&mut rng, version, at, lengths, data));
             }
             let mut basket = gen::versioned_key(&mut rng, version, at, [7, 3, 4], 20);
@@ -205,7 +206,7 @@ fn single_byte_changes() {
 fn strings_past_the_record() {
     let mut tally = Tally::new("read_piece, records shorter than their header");
     let mut rng = Rng::new(15);
-    for lengths in [[0, 0, 0], [5, 1, 0], [0, 9, 3], [0, 0, 20], [30, 0, 40], [254, 254, 254]] {
+    for lengths in [[0, 0, 0], [5, 1, 0], [0, 9, 3], [0, 0, 20], [30, 0, 40], [254, 254, 254], [255, 256, 300]] {
         for (at, version) in [(0, 4), (100, 4), (0, 1004), (100, 1004)] {
             let key = gen::versioned_key(&mut rng, version, at, lengths, 4);
             for nbytes in 1..=key.nbytes {

@@ -190,7 +190,7 @@ fn version() {
     let (_, out, _) = rootaudit(&["--version"]);
     let lines: Vec<&str> = out.lines().collect();
     assert_eq!(lines[0], format!("rootaudit {}", env!("CARGO_PKG_VERSION")));
-    assert_eq!(lines[1], "requests: 01, 02");
+    assert_eq!(lines[1], "requests: 01, 02, 04");
     for (line, label) in lines[2..].iter().zip(["commit: ", "toolchain: "]) {
         assert!(line.strip_prefix(label).is_some_and(|rest| !rest.is_empty()), "{line}");
     }

@@ -3,6 +3,8 @@
 mod command;
 
 use command::{folder, rootaudit_in, FAILED, PASSED, REFUSED};
+use kirovadzun_host::gen::files::one_root_plan;
+use kirovadzun_host::gen::strings::counted;
 use kirovadzun_host::gen::{nested, one_root, wide_root, Rng};
 use kirovadzun_host::rootaudit::words::grouped;
 use std::fs;
@@ -77,6 +79,20 @@ fn a_pass() {
         &page,
         &["<td>gap</td><td class=\"n\">1</td><td class=\"n\">12</td><td class=\"n\">3.30 %</td>", "TObjString"],
     );
+}
+
+/// Names and classes of 255 bytes and more stand there in full, and are broken where the paper ends.
+#[test]
+fn long_strings() {
+    let mut plan = one_root_plan();
+    let [name, class] = ["f".repeat(300), "C".repeat(255)];
+    plan.items[0].key.strings[1] = name.clone().into_bytes();
+    plan.items[0].names = [counted(name.as_bytes()), counted(b"")].concat();
+    plan.items[1].key.strings[0] = class.clone().into_bytes();
+    let (status, page) = page(&folder("page_long"), "a.root", &plan.build().bytes);
+    assert_eq!(status, PASSED);
+    expect(&page, &["PASSED: 5 pieces", &format!(">{name}/ at 100: "), &format!(">{class}<")]);
+    expect(&page, &["td.m, li.m { font-family: monospace; overflow-wrap: anywhere; }"]);
 }
 
 #[test]

@@ -3,6 +3,7 @@
 mod root_folder;
 
 use kirovadzun_host::ffi::{number, part};
+use kirovadzun_host::gen::fields::Field;
 use kirovadzun_host::gen::files::{one_root_plan, plan, wide_root_plan, Item, Role, SMALL};
 use kirovadzun_host::gen::{damage, one_root, wide_root, Rng, ONE_ROOT_LIST, WIDE_ROOT_LIST};
 use kirovadzun_host::model::audit::audit;
@@ -108,6 +109,25 @@ fn as_many_bytes_as_are_taken_and_one_more() {
         };
         assert!(printed(&sizes(MOST_BYTES)).starts_with("passed 5\n"));
         assert_eq!(printed(&sizes(MOST_BYTES + 1)), "input too long\n");
+    }
+}
+
+/// Titles of 254 to 256 bytes and of 10,000; a length of 254 in five bytes is 6.
+#[test]
+fn long_titles() {
+    for form in [one_root_plan, wide_root_plan] {
+        for len in [254, 255, 256, 10_000] {
+            let mut plan = form();
+            plan.items[1].key.strings[2] = vec![b't'; len];
+            let mut built = plan.build();
+            assert!(printed(&built.bytes).starts_with("passed 5\n"));
+            compare(&built.bytes);
+            if len > 254 {
+                let title = built.sites[1].start + built.sites[1].keylen - len;
+                built.put(Field { at: title - 4, width: 4 }, 254);
+                assert_eq!(printed(&built.bytes), format!("refused 6 {}\n", built.start(1)));
+            }
+        }
     }
 }
 

@@ -2,6 +2,7 @@
 
 use kirovadzun_host::compare::{read_piece, write_again, write_key, Tally};
 use kirovadzun_host::ffi;
+use kirovadzun_host::gen::strings::length_size;
 use kirovadzun_host::gen::{self, Rng};
 use kirovadzun_host::model::key::NewKey;
 
@@ -17,7 +18,10 @@ fn write_and_read(tally: &mut Tally, reads: &mut Tally, key: &NewKey, before: &[
 }
 
 // Values for each input of the writer. The first of each is a good one.
-const STRINGS: [usize; 7] = [3, 0, 1, 254, 255, 256, 1000];
+/// Beside two of the first length, 32,720 is the longest in a wide key, and 32,728 in a narrow one.
+const STRINGS: [usize; 10] = [3, 0, 1, 254, 255, 256, 32_720, 32_728, 32_729, LONGEST];
+/// The longest that is tried.
+const LONGEST: usize = 65_536;
 /// Added to the sum; the last three stand for themselves.
 const NBYTES: [i64; 9] = [9, -1, 0, 1, -29, 3000, i32::MAX as i64, i32::MAX as i64 + 1, u32::MAX as i64];
 const VERSIONS: [u32; 13] = [4, 0, 1, 1000, 1001, 1004, 2000, 2001, 65535, 65536, 65537, 66540, u32::MAX];
@@ -29,6 +33,7 @@ const SEEK_KEYS: [u64; 10] =
 const SEEK_PDIRS: [u64; 6] = [100, 0, (1 << 32) - 1, 1 << 32, 1 << 63, u64::MAX];
 /// Added to SeekKey + Nbytes; the last two stand for themselves.
 const ROOMS: [i64; 6] = [0, -1, 1, 40, 0, 1];
+const MOST_ROOM: usize = 40_000;
 
 const INPUTS: usize = 11;
 /// How many values each input has.
@@ -48,9 +53,10 @@ const VALUES: [usize; INPUTS] = [
 
 /// Runs on a key with the chosen values, and the length of its buffer.
 fn with_key(choice: [usize; INPUTS], text: &[u8], run: impl FnOnce(&NewKey, usize)) {
-    let [class, name, title] = [0, 1, 2].map(|i| &text[1000 * i..][..STRINGS[choice[i]]]);
+    let [class, name, title] = [0, 1, 2].map(|i| &text[100 * i..][..STRINGS[choice[i]]]);
     let wide = VERSIONS[choice[4]] > 1000;
-    let sum = if wide { 37 } else { 29 } + class.len() + name.len() + title.len();
+    let stored = |string: &[u8]| length_size(string.len()) + string.len();
+    let sum = if wide { 34 } else { 26 } + stored(class) + stored(name) + stored(title);
     let nbytes = match NBYTES[choice[3]] {
         near if near < 4000 => (sum as i64 + near) as u32,
         far => far as u32,
@@ -67,7 +73,7 @@ fn with_key(choice: [usize; INPUTS], text: &[u8], run: impl FnOnce(&NewKey, usiz
         name,
         title,
     };
-    let end = key.seek_key.saturating_add(nbytes.into()).min(8000) as i64;
+    let end = key.seek_key.saturating_add(nbytes.into()).min(MOST_ROOM as u64 - 40) as i64;
     let room = if choice[10] < 4 { end + ROOMS[choice[10]] } else { ROOMS[choice[10]] };
     run(&key, room.max(0) as usize);
 }
@@ -77,8 +83,8 @@ fn any_three_limits_at_once() {
     let mut tally = Tally::new("write_key, any three inputs at any of their limits");
     let mut reads = Tally::new("read_piece, the headers written");
     let mut rng = Rng::new(60);
-    let text = rng.bytes(3000);
-    let buffer = rng.bytes(8040);
+    let text = rng.bytes(LONGEST + 200);
+    let buffer = rng.bytes(MOST_ROOM);
     for a in 0..INPUTS {
         for b in a + 1..INPUTS {
             for c in b + 1..INPUTS {
@@ -92,7 +98,7 @@ fn any_three_limits_at_once() {
             }
         }
     }
-    tally.finish(50_000, &[0, 15, 16, 17]);
+    tally.finish(90_000, &[0, 15, 16, 17]);
     reads.finish(5_000, &[0]);
 }
 
@@ -105,8 +111,8 @@ fn random_limits() {
     let mut tally = Tally::new("write_key, random inputs at their limits");
     let mut reads = Tally::new("read_piece, the headers written");
     let mut rng = Rng::new(61);
-    let text = rng.bytes(3000);
-    let buffer = rng.bytes(8040);
+    let text = rng.bytes(LONGEST + 200);
+    let buffer = rng.bytes(MOST_ROOM);
     for _ in 0..30_000 {
         let choice = VALUES.map(|values| if rng.once_in(3) { rng.below(values) } else { 0 });
         with_key(choice, &text, |key, room| {

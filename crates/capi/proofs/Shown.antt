@@ -6,7 +6,7 @@ use lib.IntN.{ℤ}
 use Rattle.wire.specs.Number.{bits16}
 use Rattle.wire.specs.declared.Answer.{Answer}
 use Rattle.wire.specs.declared.number.Bits.{Bits}
-use Rattle.key.specs.Piece.{pieceAt, answerOf}
+use Rattle.key.specs.Piece.{answerOf}
 use Rattle.key.specs.Writer.{Reads, Writes}
 use Rattle.key.specs.declared.piece.Piece.{Piece}
 use Rattle.capi.specs.Told.{pieceList, Shows, heldBits, storedCycle, fieldsOf}

@@ -5,7 +5,7 @@ use Rattle.wire.specs.Check.{all}
 use Rattle.wire.specs.Equal.{eqBytes}
 use Rattle.wire.specs.Layout.{widthOf}
 use Rattle.wire.specs.Number.{beValue, numAt, beBytes, signedOf, bitsOf}
-use Rattle.wire.specs.Text.{textSize, textOf, textAt, textIn, onText, contentOf, textBytes}
+use Rattle.wire.specs.Text.{prefixBytes, prefixSize, textSize, textOf, lengthAt, textAt, textIn, onText, contentOf, textBytes}
 use Rattle.date.specs.Date.{packed, packAnswer}
 use Rattle.key.specs.Header.{keyAt, namesIn, headerIn}
 use Rattle.key.specs.Piece.{sizeAt, recordThere, pieceAt, pieceAnswer, onRecord}
@@ -30,8 +30,9 @@ use Rattle.streamer.specs.Info.{infoAnswer, infoTable}
 use Rattle.examples.specs.Worked.{examples}
 
 pub worked : all examples ≡ true
-unfolding eqBytes widthOf beValue numAt beBytes signedOf bitsOf textSize textOf textAt textIn onText contentOf textBytes packed packAnswer keyAt
-    namesIn headerIn sizeAt recordThere pieceAt pieceAnswer onRecord headerBytes nameBytes sameBytes named fileHead endFits openedAs
+unfolding eqBytes widthOf beValue numAt beBytes signedOf bitsOf prefixBytes prefixSize textSize textOf lengthAt textAt textIn onText contentOf
+    textBytes packed packAnswer keyAt namesIn headerIn sizeAt recordThere pieceAt pieceAnswer onRecord headerBytes nameBytes sameBytes
+    named fileHead endFits openedAs
     dirAt dirIn keptIf headDirIn headIn dirOf dataIn freeIn listClass listIn copyIn segmentsAt segmentsEnd segmentVersion versionsFit
     gaps lastFits listGaps freeHolds infoHolds chain ruled verdict starts rowOf listedMark copyTurn copies dataTurn keysIn keysTurn
     dirTurn roundTurn nextRow rounds firstPart

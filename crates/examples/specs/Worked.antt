@@ -1,5 +1,5 @@
--- Document 01, "Examples by hand", those marked * and one.root's 0, 7 and 9, and beside them the wide form (document 02, request 02) and
--- the ten kinds: one table of what the definitions give.
+-- Document 01, "Examples by hand", those marked * and one.root's 0, 7 and 9, and beside them the wide form (document 02, request 02),
+-- a short string in the long form (request 04) and the ten kinds: one table of what the definitions give.
 use Prim.Native.Nat.{ℕ}
 use mathlib.Core.Bool.{false}
 use mathlib.Core.List.{List, [], _∷_, _++_}
@@ -8,6 +8,7 @@ use Rattle.wire.specs.Check.{Check, eq, yes}
 use Rattle.date.specs.Date.{packAnswer}
 use Rattle.wire.specs.Equal.{eqBytes}
 use Rattle.wire.specs.Number.{numAt}
+use Rattle.wire.specs.Quoted.{bytes}
 use Rattle.wire.specs.declared.Answer.{Answer}
 use Rattle.date.specs.declared.Date.{Date}
 use Rattle.key.specs.Header.{sumOf, headerIn}
@@ -63,6 +64,10 @@ sumAt s = sumIn (headerIn s 0 (length s))
 abbrev pub emptyKey : ℕ → List ℕ
 emptyKey version = keyBytes version 0 0 0 [] [] []
 
+-- a record at 0 whose name has the long form with the length 254: the byte that follows it is the title's length, 0
+abbrev pub shortInLong : List ℕ
+shortInLong = set (keyBytes 4 0 0 0 (bytes "A") (replicate 255 0) []) 32 254
+
 -- a copy whose KeyLen, 41, is one above its sum
 abbrev pub longCopy : List ℕ
 longCopy = set (objectKey false 168) 15 41 ++ 0 ∷ []
@@ -82,9 +87,10 @@ examples =
     ++ answers (infoAnswer (twoClasses 4 89) 0 5) 24 0 1
     -- one.root's head key has sum 35; "x" of TObjString 40
     ++ eq (sumAt (headKey false)) 35 ∷ eq (sumAt (objectKey false 168)) 40
-    -- name length 254 is taken, 255 is 6
+    -- names of 254, 255 and 256 bytes are taken (document 02, request 04)
     ∷ answers (pieceAnswer (longName 254) 0) 0 0 284
-    ++ answers (pieceAnswer (longName 255) 0) 6 0 0
+    ++ answers (pieceAnswer (longName 255) 0) 0 0 289
+    ++ answers (pieceAnswer (longName 256) 0) 0 0 290
     -- three bytes left before END is 5; four holding -4 is a gap
     ++ answers (pieceAnswer (255 ∷ 255 ∷ 255 ∷ []) 0) 5 0 0
     ++ isGapOf (255 ∷ 255 ∷ 255 ∷ 252 ∷ []) 4
@@ -120,7 +126,9 @@ examples =
     -- Units 8 in the narrow one, and 4 in the wide, is 3
     ++ says (verdict (set (oneRoot 308) 32 8) 5) 3 0 0
     ++ says (verdict (set (wideRoot 433) 40 4) 5) 3 0 0
-    -- not one of the paper's: each of the ten kinds, and its row
+    -- nor is this, of request 04: a name of 254 bytes in the long form is 6
+    ++ answers (pieceAnswer shortInLong 0) 6 0 0
+    -- nor is this: each of the ten kinds, and its row
     ++ answers (infoAnswer tenKinds 0 60) 0 0 10
     ++ yes
     (eqBytes (infoTable tenKinds 0 60)

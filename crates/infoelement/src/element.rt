@@ -11,7 +11,7 @@ use infofield::field::text;
 use infofield::field::versioned;
 use wire::number::be32;
 
-// The place of a name's length byte, and the place after its TNamed.
+// The place of a name's first length byte, and the place after its TNamed.
 pub struct Name {
     pub at: usize,
     pub next: usize,

@@ -1,20 +1,18 @@
 -- Steps one after the other: what an answer is, from the answers of the steps.
 use Prim.Native.Nat.{ℕ, zero, suc, _+_, _-_, _<_, _≤_}
 use mathlib.Core.List.{List}
-use mathlib.Core.Bool.{Bool, true, false}
-use lib.Dec.{leb}
 use mathlib.Core.Path.{_≡_, refl, sym, _∙_}
 use native.Mathlib.Omega.{arith}
 use native.Mathlib.Nat.{suc-add, zero-add}
 use native.Mathlib.Numerals.{add-one}
-use borrow.Author.Tests.{leb-true, le-leb, lt-leb, eq-eqb, ne-eqb}
+use borrow.Author.Tests.{le-leb, lt-leb, eq-eqb, ne-eqb}
 use Rattle.wire.specs.Check.{All, pick}
-use Rattle.wire.specs.Text.{textSize, textOf, textAt, textIn}
+use Rattle.wire.specs.Text.{textIn}
 use Rattle.wire.specs.declared.text.Text.{Text}
 use Rattle.wire.specs.declared.text.Found.{Found}
 use Rattle.wire.specs.declared.text.Found.the-variants.{Held, Cut}
 use Rattle.wire.proofs.Checks.{picked, not-picked, from-picked}
-use Rattle.wire.proofs.Texts.{from-held}
+use Rattle.wire.proofs.Texts.{stands}
 use Rattle.infofield.specs.Field.{andThen, fieldAt, numbersAt, endOf, counts, countAt, counted, versionedAt, versioned}
 use Rattle.infofield.specs.Field.{endedAt, placed, textFieldAt, unnamedAt}
 use Rattle.infofield.specs.declared.field.Step.{Step}
@@ -94,11 +92,13 @@ pub text-out : (s : List ℕ) (p e : ℕ) {y : Found} → y ≡ textIn s p e →
 unfolding textFieldAt
 text-out s p e {y} d g = rw (sym d ∙ g)
 
-pub empty-in : (s : List ℕ) (p e : ℕ) {y : Found} {t : Text} → y ≡ textIn s p e → y ≡ Held t → t .len ≡ 0 → Next (t .next) ≡ unnamedAt s p e
+pub empty-in : (s : List ℕ) (p e : ℕ) {y : Found} {t : Text} → y ≡ textIn s p e → y ≡ Held t → t .len ≡ 0
+    → Next (t .next) ≡ unnamedAt s p e
 unfolding unnamedAt
 empty-in s p e {y} {t} d g h = rw (sym d ∙ g) (zero-yes _ _ _ h)
 
-pub empty-not : (s : List ℕ) (p e : ℕ) {y : Found} {t : Text} → y ≡ textIn s p e → y ≡ Held t → (t .len ≡ 0 → ⊥) → Wrong 21 p ≡ unnamedAt s p e
+pub empty-not : (s : List ℕ) (p e : ℕ) {y : Found} {t : Text} → y ≡ textIn s p e → y ≡ Held t → (t .len ≡ 0 → ⊥)
+    → Wrong 21 p ≡ unnamedAt s p e
 unfolding unnamedAt
 empty-not s p e {y} {t} d g h = rw (sym d ∙ g) (zero-no _ _ _ h)
 
@@ -108,11 +108,11 @@ empty-out s p e {y} d g = rw (sym d ∙ g)
 
 -- a string that was read starts before the end
 pub text-below : (s : List ℕ) (p e : ℕ) {y : Step} {q : ℕ} → y ≡ textFieldAt s p e → y ≡ Next q → p ≤ e
-unfolding textFieldAt textSize textOf textAt
+unfolding textFieldAt
 text-below s p e {y} {q} d g = go (textIn s p e) refl (sym d ∙ g)
   where
     go : (f : Found) → f ≡ textIn s p e → placed f p ≡ Next q → p ≤ e
-    go (Held t) i h = omega (arith, from-held s p e i .1)
+    go (Held t) i h = let d = stands s p e i in omega (arith, d .start, d .content, d .fits)
     go Cut i h = let z : _≡_ {A = ℕ} 0 1 = cc in absurd (omega arith)
 
 -- ByteCounts

@@ -110,7 +110,7 @@ pub fn numbers(count: usize, at: usize, end: usize) -> Step
     Step::Next(place)
 }
 
-// A string with its length byte.
+// A string with its length.
 pub fn text(file: &[u8], at: usize, end: usize) -> Step
     ensures { λ r. ⌜ r ≡ textFieldAt (before file) at end ⌝ }
 {

@@ -3,5 +3,6 @@ pub mod Names
 pub mod Others
 pub mod Pieces
 pub mod RoundTrips
+pub mod Sums
 pub mod WriteAgain
 pub mod Writes

@@ -20,15 +20,16 @@ use Rattle.wire.specs.declared.text.Found.the-variants.{Held}
 use Rattle.wire.proofs.Checks.{from-picked}
 use Rattle.wire.proofs.Layouts.{width-within, length-values, read-written}
 use Rattle.wire.proofs.Patches.{length-patch, drop-patch}
-use Rattle.wire.proofs.Texts.{text-there}
-use Rattle.key.specs.Header.{keyLayout, fixedPart, widthAt, keyFrom, keyAt}
+use Rattle.wire.proofs.Texts.{size-least, text-there}
+use Rattle.key.specs.Header.{keyLayout, fixedPart, mostKeyLen, widthAt, keyFrom, keyAt}
 use Rattle.key.specs.Piece.{sized, pieceAt}
 use Rattle.key.specs.declared.header.Names.{Names}
 use Rattle.key.specs.declared.piece.Piece.the-variants.{Record}
 use Rattle.key.proofs.Headers.{Strings, strings, good}
 use Rattle.key.proofs.Names.{all-names}
 use Rattle.key.proofs.Pieces.{size-plus, record-there}
-use Rattle.key.specs.Writer.{nameBytes, sumBytes, numbersOf, headerBytes, keyOf, namesShort, keyFits, writeAnswer, writeBuffer, ReadBack, Writes}
+use Rattle.key.specs.Writer.{nameBytes, sumBytes, numbersOf, headerBytes, keyOf, sumFits, keyFits, writeAnswer, writeBuffer}
+use Rattle.key.specs.Writer.{ReadBack, Writes}
 use Rattle.key.specs.declared.header.Fields.{Fields}
 use Rattle.key.proofs.Writes.{Accepted, key-limits, inside, buffer-is}
 
@@ -52,10 +53,10 @@ module _ (f : Fields) (class name title buf : List ℕ) where
   accepted ok =
       let n : (c : ℕ) → writeAnswer f class name title buf ≡ refusal (suc c) 0 → ⊥
       = λ c e. let i : 0 ≡ suc c = sym ok ∙ ap (λ (a : Answer). a .number) e in omega arith in
-      let a = from-picked (namesShort class name title) _ _ refl (n 14) in
+      let a = from-picked (sumFits (f .version) class name title) _ _ refl (n 14) in
       let b = from-picked (keyFits f class name title) _ _ (a .0) (n 15) in
       let c = from-picked (le (f .seekkey + f .nbytes) (length buf) ∷ []) _ _ (b .0) (n 16) in
-      record { short = a .1; key = b .1; room = c .1 .0 }
+      record { sum = a .1; key = b .1; room = c .1 .0 }
 
   -- the numbers that are written, and the place of the strings
   abbrev numbers : List ℕ
@@ -69,11 +70,10 @@ module _ (f : Fields) (class name title buf : List ℕ) where
 
   module _ (h : Accepted f class name title buf) (d : f .datime < 4294967296) where
     fit : Fit (keyLayout w) numbers
-    unfolding textSize
     fit =
         let k = h .key in
         let l = key-limits f class name title k in
-        let s = h .short in
+        let s = h .sum in
         let c = bits-fit (f .cycle) (k .0) in
         let w = width-within (ltb 1000 (f .version)) in
         omega arith
@@ -121,30 +121,32 @@ module _ (f : Fields) (class name title buf : List ℕ) where
     room-there = omega (arith, out-long, h .room, key-limits f class name title (h .key))
 
     -- a string of the header, where it was written; what follows it in the header takes n bytes
-    string-there : (q : ℕ) (t rest : List ℕ) (n : ℕ) → length t < 255
+    string-there : (q : ℕ) (t rest : List ℕ) (n : ℕ) → textSize (length t) ≤ mostKeyLen
         → q + textSize (length t) + n ≡ f .seekkey + sumBytes (f .version) class name title
         → drop q out ≡ textBytes t ++ rest
         → (Held (textOf q (length t)) ≡ textIn out q end) × (contentOf out (textOf q (length t)) ≡ t)
         × (drop (q + textSize (length t)) out ≡ rest)
-    string-there q t rest n s l e = let r = room-there in text-there out q end t rest s (omega arith) (r .1) e
+    string-there q t rest n s l e =
+        let r = room-there in
+        text-there out q end t rest (omega (arith, size-least (length t), s)) (omega arith) (r .1) e
 
     class-there : (Held (textOf at (length class)) ≡ textIn out at end) × (contentOf out (textOf at (length class)) ≡ class)
         × (drop (at + textSize (length class)) out ≡ textBytes name ++ (textBytes title ++ after))
-    class-there = string-there at class _ (textSize (length name) + textSize (length title)) (h .short .0) (omega arith) tail
+    class-there = string-there at class _ (textSize (length name) + textSize (length title)) (omega (arith, h .sum)) (omega arith) tail
 
     abbrev second : ℕ
     second = at + textSize (length class)
 
     name-there : (Held (textOf second (length name)) ≡ textIn out second end) × (contentOf out (textOf second (length name)) ≡ name)
         × (drop (second + textSize (length name)) out ≡ textBytes title ++ after)
-    name-there = string-there second name _ (textSize (length title)) (h .short .1 .0) (omega arith) (class-there .2)
+    name-there = string-there second name _ (textSize (length title)) (omega (arith, h .sum)) (omega arith) (class-there .2)
 
     abbrev third : ℕ
     third = second + textSize (length name)
 
     title-there : (Held (textOf third (length title)) ≡ textIn out third end) × (contentOf out (textOf third (length title)) ≡ title)
         × (drop (third + textSize (length title)) out ≡ after)
-    title-there = string-there third title after 0 (h .short .1 .1 .0) (omega arith) (name-there .2)
+    title-there = string-there third title after 0 (omega (arith, h .sum)) (omega arith) (name-there .2)
 
     abbrev names : Names
     names = record { class = textOf at (length class); name = textOf second (length name); title = textOf third (length title) }

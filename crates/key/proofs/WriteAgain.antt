@@ -12,7 +12,6 @@ use Rattle.wire.specs.Answer.{done}
 use Rattle.wire.specs.Check.{All}
 use Rattle.wire.specs.Layout.{offsetWidth, extent, valuesAt, valueBytes, Fit}
 use Rattle.wire.specs.Number.{Bytes, signedOf, bitsOf}
-use Rattle.wire.specs.Patch.{patch}
 use Rattle.wire.specs.Text.{textSize, textOf, contentOf}
 use Rattle.wire.proofs.Checks.{below-or}
 use Rattle.wire.proofs.Layouts.{write-read, values-fit}
@@ -25,7 +24,7 @@ use Rattle.key.specs.declared.piece.Piece.{Piece}
 use Rattle.key.specs.declared.piece.Piece.the-variants.{Record}
 use Rattle.key.proofs.Headers.{Strings, namesOf}
 use Rattle.key.proofs.Pieces.{Recorded, from-record}
-use Rattle.key.specs.Writer.{nameBytes, sumBytes, numbersOf, headerBytes, keyOf, fieldsOf, keyFits, writeAnswer, writeBuffer, WrittenAgain, Reads}
+use Rattle.key.specs.Writer.{nameBytes, sumBytes, numbersOf, headerBytes, keyOf, fieldsOf, keyFits, WrittenAgain, Reads}
 use Rattle.key.proofs.Writes.{Accepted, answer-is, buffer-is}
 
 -- two stretches of a file, one after the other
@@ -81,9 +80,9 @@ module _ (s : List ℕ) (p : ℕ) (b : Bytes s) (n : Names) (h : Recorded s p (k
   unfolding nameBytes
   names =
       rw (
-        read-again (there .class),
-        read-again (there .name),
-        read-again (there .title),
+        read-again (there .class) b,
+        read-again (there .name) b,
+        read-again (there .title) b,
         join s q (k .class .next) (textSize (k .class .len)) (textSize (k .name .len)) (there .class .next),
         join s q (k .name .next) (textSize (k .class .len) + textSize (k .name .len)) (textSize (k .title .len))
             (omega (arith, there .class .next, there .name .next)),
@@ -106,7 +105,7 @@ module _ (s : List ℕ) (p : ℕ) (b : Bytes s) (n : Names) (h : Recorded s p (k
 
   accepted : (buf : List ℕ) → k .seekkey + k .nbytes ≤ length buf → Accepted (fieldsOf k) class name title buf
   accepted buf l = record {
-    short = omega (arith, lengths, there .class .short, there .name .short, there .title .short);
+    sum = omega (arith, sum-is, h .header .fits);
     key = fields;
     room = l;
   }

@@ -21,7 +21,7 @@ use Rattle.wire.proofs.Checks.{yes-all, not-all}
 use Rattle.wire.proofs.Layouts.{length-values}
 use Rattle.wire.proofs.Texts.{length-text}
 use Rattle.key.specs.Header.{keyLayout, limits}
-use Rattle.key.specs.Writer.{nameBytes, sumBytes, numbersOf, headerBytes, keyOf, namesShort, keyFits, writeAnswer, writeBuffer}
+use Rattle.key.specs.Writer.{nameBytes, sumBytes, numbersOf, headerBytes, keyOf, sumFits, keyFits, writeAnswer, writeBuffer}
 use Rattle.key.specs.declared.header.Fields.{Fields}
 
 pub length-names : (a b c : List ℕ) → length (nameBytes a b c) ≡ textSize (length a) + textSize (length b) + textSize (length c)
@@ -68,7 +68,7 @@ module _ (f : Fields) (class name title : List ℕ) where
 module _ (f : Fields) (class name title buf : List ℕ) where
   -- what a key that is written meets
   pub record Accepted : Type 0 where
-    pub short : All (namesShort class name title)
+    pub sum : All (sumFits (f .version) class name title)
     pub key : All (keyFits f class name title)
     pub room : f .seekkey + f .nbytes ≤ length buf
 
@@ -84,22 +84,22 @@ module _ (f : Fields) (class name title buf : List ℕ) where
   unfolding writeBuffer
   kept c l e h = (e ∙ sym h, rw (h, ne-eqb c 0 (λ z. omega arith)) refl)
 
-  pub long-name : {r : Answer} → (All (namesShort class name title) → ⊥) → r ≡ refusal 15 0 → Wrote r buf
+  pub long-sum : {r : Answer} → (All (sumFits (f .version) class name title) → ⊥) → r ≡ refusal 15 0 → Wrote r buf
   unfolding writeAnswer
-  long-name h e = kept 15 (omega arith) e (rw (not-all (namesShort class name title) h))
+  long-sum h e = kept 15 (omega arith) e (rw (not-all (sumFits (f .version) class name title) h))
 
-  module _ (short : All (namesShort class name title)) where
+  module _ (sum : All (sumFits (f .version) class name title)) where
     pub bad-field : {r : Answer} → (All (keyFits f class name title) → ⊥) → r ≡ refusal 16 0 → Wrote r buf
     unfolding writeAnswer
     bad-field h e =
-        kept 16 (omega arith) e (rw (yes-all (namesShort class name title) short, not-all (keyFits f class name title) h))
+        kept 16 (omega arith) e (rw (yes-all (sumFits (f .version) class name title) sum, not-all (keyFits f class name title) h))
 
     pub no-room : {r : Answer} → All (keyFits f class name title) → length buf < f .seekkey + f .nbytes → r ≡ refusal 17 0 → Wrote r buf
     unfolding writeAnswer
     no-room h l e =
         kept 17 (omega arith) e
         (rw (
-          yes-all (namesShort class name title) short,
+          yes-all (sumFits (f .version) class name title) sum,
           yes-all (keyFits f class name title) h,
           not-all (le (f .seekkey + f .nbytes) (length buf) ∷ []) (λ i. omega (arith, i)),
         ))
@@ -108,7 +108,7 @@ module _ (f : Fields) (class name title buf : List ℕ) where
   unfolding writeAnswer
   answer-is h =
       rw (
-        yes-all (namesShort class name title) (h .short),
+        yes-all (sumFits (f .version) class name title) (h .sum),
         yes-all (keyFits f class name title) (h .key),
         yes-all (le (f .seekkey + f .nbytes) (length buf) ∷ []) (h .room, tt),
       )

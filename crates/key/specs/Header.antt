@@ -1,11 +1,12 @@
--- Key headers: document 01, "Key headers (000)"; document 02, request 02, for the width of their offsets.
+-- Key headers: document 01, "Key headers (000)"; document 02, request 02, for the width of their offsets, and request 04 for long strings and
+-- KeyLen's limit.
 use Prim.Native.Nat.{ℕ, _+_}
 use mathlib.Core.Bool.{Bool}
 use mathlib.Core.List.{List, [], _∷_}
 use lib.ListN.{getD}
 use Rattle.wire.specs.Check.{Check, le, eq, all, pick}
 use Rattle.wire.specs.Layout.{offsetWidth, versionFits, extent, valuesAt}
-use Rattle.wire.specs.Number.{numAt, signedOf}
+use Rattle.wire.specs.Number.{numAt, lesser, signedOf}
 use Rattle.wire.specs.Text.{textIn, onText, textSize}
 use Rattle.key.specs.declared.header.Names.{Names}
 use Rattle.key.specs.declared.header.Named.{Named}
@@ -18,7 +19,7 @@ use Rattle.key.specs.declared.header.Header.the-variants.{Good, Bad}
 abbrev pub keyLayout : ℕ → List ℕ
 keyLayout w = 4 ∷ 2 ∷ 4 ∷ 4 ∷ 2 ∷ 2 ∷ w ∷ w ∷ []
 
--- the bytes of these numbers, 18 + 2 * w: there the class's length byte stands
+-- the bytes of these numbers, 18 + 2 * w: there the class stands
 abbrev pub fixedPart : ℕ → ℕ
 fixedPart w = extent (keyLayout w)
 
@@ -55,15 +56,30 @@ widthAt s p = offsetWidth (numAt 2 s (p + 4))
 unfoldable pub keyAt : List ℕ → ℕ → Names → Key
 keyAt s p t = keyFrom (valuesAt (keyLayout (widthAt s p)) s p) t
 
--- "sum": 26, or 34 in the wide form, plus the strings with their length bytes
+-- "sum", of Version and the lengths of class, name and title: 26, or 34 in the wide form, plus the strings as they are stored
+abbrev pub sumFor : ℕ → ℕ → ℕ → ℕ → ℕ
+sumFor version class name title = fixedPart (offsetWidth version) + textSize class + textSize name + textSize title
+
 abbrev pub sumOf : Key → ℕ
-sumOf k = fixedPart (offsetWidth (k .version)) + textSize (k .class .len) + textSize (k .name .len) + textSize (k .title .len)
+sumOf k = sumFor (k .version) (k .class .len) (k .name .len) (k .title .len)
+
+-- the sum up to a bound that no number of 32 bits reaches
+abbrev pub sumBound : ℕ
+sumBound = 4294967296
+
+unfoldable pub boundedSum : ℕ → ℕ → ℕ → ℕ → ℕ
+boundedSum version class name title = lesser (sumFor version class name title) sumBound
+
+-- the greatest KeyLen (document 02, request 04)
+abbrev pub mostKeyLen : ℕ
+mostKeyLen = 32767
 
 -- "well formed", of Nbytes, Version, ObjLen, KeyLen and sum: Version is 1 to 2000, ObjLen and Nbytes are at most 2,147,483,647,
--- sum ≤ KeyLen ≤ Nbytes; that no length byte is 255 is a test of each string
+-- sum ≤ KeyLen ≤ Nbytes, and KeyLen is at most 32,767; that a string has the form of its length is a test of each string
 abbrev pub limits : ℕ → ℕ → ℕ → ℕ → ℕ → List Check
 limits nbytes version objlen keylen sum =
-    le 1 version ∷ versionFits version ∷ le objlen 2147483647 ∷ le nbytes 2147483647 ∷ le sum keylen ∷ le keylen nbytes ∷ []
+    le 1 version ∷ versionFits version ∷ le objlen 2147483647 ∷ le nbytes 2147483647 ∷ le sum keylen ∷ le keylen nbytes
+    ∷ le keylen mostKeyLen ∷ []
 
 unfoldable pub inLimits : ℕ → ℕ → ℕ → ℕ → ℕ → Bool
 inLimits nbytes version objlen keylen sum = all (limits nbytes version objlen keylen sum)

@@ -1,5 +1,5 @@
 -- Headers as they are written: document 01, "The key writer takes the fields but KeyLen ..."; document 02, request 02, for the width of
--- their offsets; and that reading and writing undo each other.
+-- their offsets, and request 04 for long strings; and that reading and writing undo each other.
 use Prim.Native.Nat.{ℕ, _+_, _^_, _≤_}
 use mathlib.Core.List.{List, [], _∷_, _++_}
 use mathlib.Core.Path.{_≡_}
@@ -11,9 +11,9 @@ use Rattle.wire.specs.Check.{Check, le, lt, all, All, pick}
 use Rattle.wire.specs.Layout.{offsetWidth, valueBytes}
 use Rattle.wire.specs.Number.{Bytes, bitsOf}
 use Rattle.wire.specs.Patch.{patch}
-use Rattle.wire.specs.Text.{textSize, lengthFits, textOf, textBytes, contentOf}
+use Rattle.wire.specs.Text.{textSize, textOf, textBytes, contentOf}
 use Rattle.wire.specs.declared.Answer.{Answer}
-use Rattle.key.specs.Header.{keyLayout, fixedPart, wellFormed, plain}
+use Rattle.key.specs.Header.{keyLayout, fixedPart, sumFor, mostKeyLen, wellFormed, plain}
 use Rattle.key.specs.Piece.{pieceAt, answerOf, pieceAnswer}
 use Rattle.key.specs.declared.header.Key.{Key}
 use Rattle.key.specs.declared.header.Fields.{Fields}
@@ -26,7 +26,7 @@ nameBytes class name title = textBytes class ++ textBytes name ++ textBytes titl
 
 -- the sum of a header with this Version and these strings
 abbrev pub sumBytes : ℕ → List ℕ → List ℕ → List ℕ → ℕ
-sumBytes version class name title = fixedPart (offsetWidth version) + textSize (length class) + textSize (length name) + textSize (length title)
+sumBytes version class name title = sumFor version (length class) (length name) (length title)
 
 -- the numbers of a header in the order of the layout: KeyLen is given, Cycle is its two bytes
 abbrev pub numbersOf : Fields → ℕ → List ℕ
@@ -66,9 +66,9 @@ fieldsOf k = record {
   seekpdir = k .seekpdir;
 }
 
--- 15 name: a string over 254
-abbrev pub namesShort : List ℕ → List ℕ → List ℕ → List Check
-namesShort class name title = lengthFits (length class) ∷ lengthFits (length name) ∷ lengthFits (length title) ∷ []
+-- 15 name: a sum above 32,767 (document 02, request 04)
+abbrev pub sumFits : ℕ → List ℕ → List ℕ → List ℕ → List Check
+sumFits version class name title = le (sumBytes version class name title) mostKeyLen ∷ []
 
 -- 16 field: header not well formed, or a value that does not fit its field, as an offset past 32 bits in a narrow key
 abbrev pub keyFits : Fields → List ℕ → List ℕ → List ℕ → List Check
@@ -79,7 +79,7 @@ keyFits f class name title =
 -- number, place and count, in the order 15, 16, 17; on success the count is KeyLen
 unfoldable pub writeAnswer : Fields → List ℕ → List ℕ → List ℕ → List ℕ → Answer
 writeAnswer f class name title buf =
-    pick (all (namesShort class name title))
+    pick (all (sumFits (f .version) class name title))
     (pick (all (keyFits f class name title))
     (pick (all (le (f .seekkey + f .nbytes) (length buf) ∷ [])) (done (sumBytes (f .version) class name title)) (refusal 17 0))
     (refusal 16 0))

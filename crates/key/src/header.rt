@@ -4,7 +4,7 @@ ghost use Prim.Native.Nat.{_+_, _≤_};
 ghost use Rattle.wire.specs.Layout.{offsetWidth};
 ghost use Rattle.wire.specs.Lent.{before};
 ghost use Rattle.wire.specs.Number.{numAt};
-ghost use Rattle.key.specs.Header.{fixedPart, keyAt, inLimits, headerIn, namesIn};
+ghost use Rattle.key.specs.Header.{fixedPart, boundedSum, keyAt, inLimits, headerIn, namesIn};
 use wire::number::be_offset;
 use wire::number::be16;
 use wire::number::be32;
@@ -12,13 +12,44 @@ use wire::number::signed16;
 use wire::number::width;
 use wire::text::Found;
 use wire::text::Text;
+use wire::text::prefix_size;
 use wire::text::read_text;
+
+// The greatest KeyLen.
+pub const MOST_KEYLEN: usize = 32767;
+
+// The sum is worked out up to this, which no number of 32 bits reaches.
+const SUM_BOUND: usize = 4294967296;
 
 // The bytes of a header before its strings, by its Version.
 pub fn fixed_part(version: u32) -> usize
     ensures { λ r. ⌜ (r ≡ fixedPart (offsetWidth version)) × (r ≤ 34) ⌝ }
 {
     18 + 2 * width(1000 < version)
+}
+
+// The sum of a header with this Version and strings of these lengths, of any size, up to the bound.
+pub fn sum_for(version: u32, class: usize, name: usize, title: usize) -> usize
+    ensures { λ r. ⌜ r ≡ boundedSum version class name title ⌝ }
+{
+    if SUM_BOUND < class {
+        return SUM_BOUND;
+    }
+    if SUM_BOUND < name {
+        return SUM_BOUND;
+    }
+    if SUM_BOUND < title {
+        return SUM_BOUND;
+    }
+    let strings = prefix_size(class)
+        + class
+        + (prefix_size(name) + name)
+        + (prefix_size(title) + title);
+    let sum = fixed_part(version) + strings;
+    if SUM_BOUND < sum {
+        return SUM_BOUND;
+    }
+    sum
 }
 
 // The fields of a key header, and where its strings stand.
@@ -126,6 +157,9 @@ pub fn is_formed(nbytes: u32, version: u32, objlen: u32, keylen: u32, sum: usize
         return false;
     }
     if (keylen as usize) < sum {
+        return false;
+    }
+    if MOST_KEYLEN < keylen as usize {
         return false;
     }
     true

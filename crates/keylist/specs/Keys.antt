@@ -2,7 +2,7 @@
 -- "Info", "Keys list", "Copy".
 use Prim.Native.Nat.{ℕ, _+_}
 use mathlib.Core.Bool.{Bool, false, _||_}
-use mathlib.Core.List.{List, [], _∷_}
+use mathlib.Core.List.{List, _∷_}
 use Rattle.wire.specs.Answer.{done, refusal, Gives}
 use Rattle.wire.specs.Check.{Check, eq, yes, all, pick}
 use Rattle.wire.specs.Name.{tFile, tDirectory}

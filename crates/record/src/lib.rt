@@ -7,7 +7,7 @@ ghost use Rattle.wire.specs.Name.{tFile, tDirectory};
 ghost use Rattle.key.specs.Header.{plain, unpackedData};
 ghost use Rattle.record.specs.Name.{sameBytes, named, plainRecord, isInfo};
 use key::header::Key;
-use key::header::fixed_part;
+use key::header::sum_for;
 use wire::text::Text;
 use wire::text::same;
 
@@ -18,19 +18,7 @@ pub fn is_plain(k: Key) -> bool
     let class = k.class;
     let name = k.name;
     let title = k.title;
-    let a = class.len;
-    let b = name.len;
-    let c = title.len;
-    if 4294967295 < a {
-        return false;
-    }
-    if 4294967295 < b {
-        return false;
-    }
-    if 4294967295 < c {
-        return false;
-    }
-    k.keylen as usize == fixed_part(k.version) + (1 + a) + (1 + b) + (1 + c)
+    k.keylen as usize == sum_for(k.version, class.len, name.len, title.len)
 }
 
 // Whether the data is not packed.

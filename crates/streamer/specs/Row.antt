@@ -10,7 +10,7 @@ use Rattle.infoelement.specs.declared.element.Fields.{Fields}
 use Rattle.streamer.specs.declared.row.Row.{Row}
 use Rattle.streamer.specs.declared.row.Owner.{Owner}
 
--- class index, kind, offsets in the record of the name's and the type name's length byte, fType, fArrayLength
+-- class index, kind, offsets in the record of the first length byte of the name and of the type name, fType, fArrayLength
 abbrev pub six : Row → List ℕ
 six r = r .class ∷ r .kind ∷ r .name ∷ r .typename ∷ r .ftype ∷ r .length ∷ []
 

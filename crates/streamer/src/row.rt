@@ -16,7 +16,7 @@ use infofield::field::offset;
 use infotag::tag::Head;
 use infotag::tag::read_head;
 
-// A row: class index, kind, offsets of the name's and the type name's length byte, fType and fArrayLength.
+// A row: class index, kind, offsets of the first length byte of the name and of the type name, fType and fArrayLength.
 pub struct Row {
     pub class: u32,
     pub kind: u32,

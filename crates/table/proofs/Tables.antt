@@ -1,10 +1,10 @@
 -- Laws of tables: clearing from an entry on.
 use Prim.Native.Nat.{ℕ, _+_, _-_, _<_, _≤_}
-use mathlib.Core.List.{List, _++_, append-nil}
+use mathlib.Core.List.{List, append-nil}
 use mathlib.Core.Path.{_≡_, sym, ap, _∙_}
 use native.Mathlib.Nat.{sub-self}
 use native.Mathlib.Omega.{arith}
-use lib.ListN.{length, take, set, replicate, length-replicate, length-take, drop-of-length-le, replicate-append-replicate}
+use lib.ListN.{length, set, replicate, length-replicate, drop-of-length-le, replicate-append-replicate}
 use lib.Seq.{take-all, length-take-le}
 use Rattle.wire.specs.Patch.{patch}
 use Rattle.wire.proofs.Patches.{length-patch, patch-nil, patch-set}

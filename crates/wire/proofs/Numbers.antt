@@ -86,3 +86,7 @@ value-below (suc w) s p b = let l = value-below w s p b in let g = b (p + w) in 
 pub lesser-within : (a b : ℕ) → (lesser a b ≤ a) × (lesser a b ≤ b)
 lesser-within a b =
     ⊎-elim (λ (l : b < a). rw (lt-leb a b l) (omega arith)) (λ (l : a ≤ b). rw (le-leb a b l) (omega arith)) (below-or b a)
+
+-- it is the second where that is no greater than the first
+pub lesser-second : (a b : ℕ) → b ≤ a → b ≡ lesser a b
+lesser-second a b l = ⊎-elim (λ (m : b < a). rw (lt-leb a b m) refl) (λ (m : a ≤ b). rw (le-leb a b m) (omega arith)) (below-or b a)

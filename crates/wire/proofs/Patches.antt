@@ -57,7 +57,7 @@ pub patch-then : (b : List ℕ) (at : ℕ) (x y : List ℕ) {w v : List ℕ} →
     → at + length x ≤ length b → v ≡ patch b at (x ++ y)
 patch-then b at x y p q l = q ∙ ap (λ (u : List ℕ). patch u (at + length x) y) p ∙ patch-patch b at x y l
 
-pub set-patch : (b : List ℕ) (i a : ℕ) → i < length b → set b i a ≡ patch b i (a ∷ [])
+set-patch : (b : List ℕ) (i a : ℕ) → i < length b → set b i a ≡ patch b i (a ∷ [])
 unfolding patch
 set-patch b i a l = rw (set-split b i a l, add-one)
 

@@ -2,17 +2,18 @@
 ghost use mathlib.Core.Path.{_≡_};
 ghost use Prim.Native.Nat.{_+_, _≤_};
 ghost use lib.ListN.{length};
-ghost use Rattle.wire.specs.Check.{All};
 ghost use Rattle.wire.specs.Lent.{before, after};
 ghost use Rattle.wire.specs.Number.{bitsOf};
 ghost use Rattle.wire.specs.Patch.{patch};
 ghost use Rattle.wire.specs.Text.{textSize};
-ghost use Rattle.key.specs.Writer.{nameBytes, headerBytes, namesShort, sumBytes, Writes};
+ghost use Rattle.key.specs.Writer.{nameBytes, headerBytes, sumBytes, Writes};
 use crate::store::put_text;
 use crate::store::put_values;
 use key::header::Fields;
+use key::header::MOST_KEYLEN;
 use key::header::fixed_part;
 use key::header::is_formed;
+use key::header::sum_for;
 use wire::Answer;
 use wire::finished;
 use wire::number::Bits;
@@ -20,21 +21,16 @@ use wire::number::bits_of;
 use wire::number::greatest;
 use wire::number::width;
 use wire::refused;
-use wire::text::LONGEST;
 
 mod store;
 
 // Writes three strings, one after the other, at the front of a part.
 fn put_names(part: &mut [u8], class: &[u8], name: &[u8], title: &[u8])
-    requires { ⌜ All (namesShort (now class) (now name) (now title))
-        × (textSize (length (now class)) + textSize (length (now name)) + textSize (length (now title))
-        ≤ length (now part)) ⌝ }
+    requires { ⌜ textSize (length (now class)) + textSize (length (now name)) + textSize (length (now title)) ≤ length (now part) ⌝ }
     ensures { λ _. ⌜ after part ≡ patch (before part) 0 (nameBytes (before class) (before name) (before title)) ⌝ }
 {
-    put_text(&mut *part, class);
-    let second = 1 + class.len();
-    put_text(&mut part[second..], name);
-    let third = second + (1 + name.len());
+    let second = put_text(&mut *part, class);
+    let third = second + put_text(&mut part[second..], name);
     put_text(&mut part[third..], title);
 }
 
@@ -48,7 +44,7 @@ fn put_header(
     name: &[u8],
     title: &[u8],
 )
-    requires { ⌜ All (namesShort (now class) (now name) (now title)) × (cycle ≡ bitsOf 2 (f .cycle))
+    requires { ⌜ (cycle ≡ bitsOf 2 (f .cycle))
         × (keylen ≡ sumBytes (f .version) (now class) (now name) (now title)) × (keylen ≤ length (now part)) ⌝ }
     ensures { λ _. ⌜ after part ≡ patch (before part) 0 (headerBytes f (before class) (before name) (before title)) ⌝ }
 {
@@ -70,22 +66,16 @@ fn put_header(
     put_names(&mut part[fixed..], class, name, title);
 }
 
-// Writes a header at the place SeekKey of a buffer. Refused: 15 for a string over 254 bytes, 16 for a header
+// Writes a header at the place SeekKey of a buffer. Refused: 15 for a sum above 32,767, 16 for a header
 // that is not well formed or a value that does not fit its field, 17 for a record that the buffer cannot hold.
 pub fn write_key(f: Fields, class: &[u8], name: &[u8], title: &[u8], buf: &mut [u8]) -> Answer
     ensures { λ r. ⌜ Writes f (before class) (before name) (before title) (before buf) (after buf) r ⌝ }
 {
-    if LONGEST < class.len() {
-        return refused(15, 0);
-    }
-    if LONGEST < name.len() {
-        return refused(15, 0);
-    }
-    if LONGEST < title.len() {
-        return refused(15, 0);
-    }
     let version = f.version;
-    let sum = fixed_part(version) + (1 + class.len()) + (1 + name.len()) + (1 + title.len());
+    let sum = sum_for(version, class.len(), name.len(), title.len());
+    if MOST_KEYLEN < sum {
+        return refused(15, 0);
+    }
     let Bits::Held(cycle) = bits_of(f.cycle) else {
         return refused(16, 0);
     };

@@ -2,12 +2,13 @@
 ghost use mathlib.Core.Path.{_≡_};
 ghost use Prim.Native.Nat.{_≤_};
 ghost use lib.ListN.{length};
-ghost use Rattle.wire.specs.Check.{Holds};
 ghost use Rattle.wire.specs.Layout.{extent, valueBytes};
 ghost use Rattle.wire.specs.Lent.{before, after};
 ghost use Rattle.wire.specs.Number.{beBytes};
 ghost use Rattle.wire.specs.Patch.{patch};
-ghost use Rattle.wire.specs.Text.{textSize, lengthFits, textBytes};
+ghost use Rattle.wire.specs.Text.{prefixBytes, prefixSize, textSize, textBytes};
+use wire::text::LEAST_LONG;
+use wire::text::LONG_PREFIX;
 
 // Writes a number as w bytes at the front of a part.
 fn put_number(part: &mut [u8], v: u64, w: usize)
@@ -38,15 +39,29 @@ pub(crate) fn put_values(part: &mut [u8], widths: &[usize], values: &[u64])
     }
 }
 
-// Writes a string with its length byte at the front of a part.
-pub(crate) fn put_text(part: &mut [u8], t: &[u8])
-    requires { ⌜ Holds (lengthFits (length (now t))) × (textSize (length (now t)) ≤ length (now part)) ⌝ }
-    ensures { λ _. ⌜ after part ≡ patch (before part) 0 (textBytes (before t)) ⌝ }
+// Writes the length of a string, in the form that it takes, at the front of a part, and answers the bytes that it takes.
+fn put_length(part: &mut [u8], len: usize) -> usize
+    requires { ⌜ prefixSize len ≤ length (now part) ⌝ }
+    ensures { λ r. ⌜ (r ≡ prefixSize len) × (after part ≡ patch (before part) 0 (prefixBytes len)) ⌝ }
 {
-    part[0] = t.len() as u8;
+    if len < LEAST_LONG {
+        put_values(&mut *part, &[1], &[len as u64]);
+        return 1;
+    }
+    put_values(&mut *part, &[1, 4], &[LEAST_LONG as u64, len as u64]);
+    LONG_PREFIX
+}
+
+// Writes a string with its length at the front of a part, and answers the bytes that it takes.
+pub(crate) fn put_text(part: &mut [u8], t: &[u8]) -> usize
+    requires { ⌜ textSize (length (now t)) ≤ length (now part) ⌝ }
+    ensures { λ r. ⌜ (r ≡ textSize (length (before t))) × (after part ≡ patch (before part) 0 (textBytes (before t))) ⌝ }
+{
+    let prefix = put_length(&mut *part, t.len());
     let mut i: usize = 0;
     while i < t.len() {
-        part[i + 1] = t[i];
+        part[prefix + i] = t[i];
         i += 1;
     }
+    prefix + t.len()
 }

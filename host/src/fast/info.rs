@@ -1,6 +1,6 @@
 //! The reader of an unpacked StreamerInfo record, straight into the lent table.
 
-use super::key::{be32, piece, Piece};
+use super::key::{be32, piece, string_size, Piece};
 use crate::ffi::{number, Answer};
 use std::ops::Range;
 use std::slice::ChunksExactMut;
@@ -144,17 +144,13 @@ impl<'a> Reader<'a, '_> {
         Ok(())
     }
 
-    /// The offset of a string's length byte.
+    /// The offset of a string's first length byte.
     #[inline(always)]
     fn string(&mut self, end: usize) -> Result<usize, Fault> {
         let at = self.at;
-        match self.record.get(at..end).and_then(<[u8]>::first) {
-            Some(&len) if len != 255 && usize::from(len) < end - at => {
-                self.at += 1 + usize::from(len);
-                Ok(at)
-            }
-            _ => Err((number::COUNT, at)),
-        }
+        let size = self.record.get(at..end).and_then(string_size).ok_or((number::COUNT, at))?;
+        self.at += size;
+        Ok(at)
     }
 
     /// The name of a list or an array, which has none.

@@ -14,6 +14,9 @@ const LEAST_PIECE: usize = 4;
 pub const NARROW: usize = 4;
 pub const WIDE: usize = 8;
 const MOST_BYTES: u32 = i32::MAX as u32;
+const MOST_KEYLEN: u16 = 32_767;
+/// The least length in four bytes, and the byte before these.
+const LONG: u8 = 255;
 
 #[inline(always)]
 pub fn be16<const N: usize>(bytes: &[u8; N], at: usize) -> u16 {
@@ -74,6 +77,7 @@ impl<'a> Key<'a> {
             && objlen <= MOST_BYTES
             && nbytes <= MOST_BYTES
             && sum <= usize::from(keylen)
+            && keylen <= MOST_KEYLEN
             && u32::from(keylen) <= nbytes;
         if !well_formed {
             return None;
@@ -89,13 +93,37 @@ impl<'a> Key<'a> {
     }
 }
 
-/// A length byte and as many bytes, and what follows them.
+/// The string that these bytes begin with, after its length, and what follows it.
 #[inline]
 pub fn string(bytes: &[u8]) -> Option<(&[u8], &[u8])> {
     match bytes.split_first()? {
-        (255, _) => None,
+        (&LONG, _) => long_string(bytes),
         (&len, rest) => rest.split_at_checked(len.into()),
     }
+}
+
+/// The same in the long form.
+#[cold]
+fn long_string(bytes: &[u8]) -> Option<(&[u8], &[u8])> {
+    let (before, len) = long_length(bytes)?;
+    bytes[before..].split_at_checked(len)
+}
+
+/// The bytes of a length in the long form, and the length.
+#[cold]
+fn long_length(bytes: &[u8]) -> Option<(usize, usize)> {
+    let len = u32::from_be_bytes(*bytes.get(1..)?.first_chunk()?);
+    (len >= LONG.into()).then_some((5, len as usize))
+}
+
+/// What the string that these bytes begin with takes, with its length.
+#[inline(always)]
+pub fn string_size(bytes: &[u8]) -> Option<usize> {
+    let (before, len) = match *bytes.first()? {
+        LONG => long_length(bytes)?,
+        len => (1, len.into()),
+    };
+    (len <= bytes.len() - before).then_some(before + len)
 }
 
 /// What stands at a place. A record has its bytes and its key.

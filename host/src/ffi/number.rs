@@ -16,6 +16,7 @@ pub const DIRECTORY: u64 = 11;
 pub const KEYS: u64 = 12;
 pub const ENTRY: u64 = 13;
 pub const TWICE: u64 = 14;
+/// The sum of a key to be written is too great.
 pub const NAME: u64 = 15;
 pub const FIELD: u64 = 16;
 pub const ROOM: u64 = 17;

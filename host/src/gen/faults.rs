@@ -2,7 +2,8 @@
 //! then refuses.
 
 use super::fields::{DirectoryAt, Field, HeaderAt, KeyAt, SegmentAt};
-use super::files::{counted, keys, segment_bytes, Built, Item, Plan, Role};
+use super::files::{keys, segment_bytes, Built, Item, Plan, Role};
+use super::strings::{counted, long_form};
 use super::Rng;
 use crate::ffi::number;
 use crate::model::width;
@@ -150,6 +151,7 @@ pub fn all() -> Vec<Fault> {
     faults.extend(in_header());
     faults.extend(in_chain());
     faults.extend(in_keys_of_pieces());
+    faults.extend(in_lengths_of_keys());
     faults.extend(in_head());
     faults.extend(in_names_of_head());
     faults.extend(in_header_of_head());
@@ -310,7 +312,51 @@ fn in_keys_of_pieces() -> Vec<Fault> {
         bad("KeyLen below the sum")
             .bytes(|file, t| file.put(of(file, t).keylen(), file.sites[t.record].keylen as u64 - 1)),
         bad("KeyLen above Nbytes").bytes(|file, t| file.put(of(file, t).keylen(), file.size(t.record) + 1)),
-        bad("class of 255 bytes").bytes(|file, t| file.put(of(file, t).class(), 255)),
+        bad("class in the long form")
+            .plan(|_, plan, t| class_of_four(plan, t.record))
+            .bytes(|file, t| other_form(file, of(file, t))),
+        bad("class of no bytes in the long form")
+            .plan(|_, plan, t| class_of_four(plan, t.record))
+            .bytes(|file, t| long_class(file, of(file, t), 0)),
+        bad("class past the record in the long form")
+            .plan(|_, plan, t| class_of_four(plan, t.record))
+            .bytes(|file, t| long_class(file, of(file, t), u64::MAX)),
+    ]
+}
+
+/// Four bytes or more for the class of a record that had less.
+fn class_of_four(plan: &mut Plan, index: usize) {
+    let class = &mut plan.items[index].key.strings[0];
+    if class.len() < 4 {
+        *class = b"TH1F".to_vec();
+    }
+}
+
+/// Stores the class of a key in the long form with a length, over the first four of its bytes or more.
+fn long_class(file: &mut Built, key: KeyAt, len: u64) {
+    file.put(key.class(), 255);
+    file.put(Field { at: key.class().at + 1, width: 4 }, len);
+}
+
+/// Stores the class of a key in the long form, without its first four bytes: it takes as many as before.
+fn other_form(file: &mut Built, key: KeyAt) {
+    let len = file.get(key.class());
+    long_class(file, key, len.saturating_sub(4));
+}
+
+/// Lengthens the key of the target's loose record, as a basket's, to a KeyLen.
+fn basket(plan: &mut Plan, target: &Target, keylen: usize) {
+    let item = &mut plan.items[target.loose];
+    item.more = keylen - item.key.sum();
+}
+
+fn in_lengths_of_keys() -> Vec<Fault> {
+    vec![
+        fault(6, "KeyLen 32,768")
+            .rough()
+            .plan(|_, plan, t| basket(plan, t, 32_768))
+            .place(|file, target| file.start(target.loose)),
+        fault(0, "KeyLen 32,767").plan(|_, plan, t| basket(plan, t, 32_767)),
     ]
 }
 
@@ -349,10 +395,16 @@ fn in_head() -> Vec<Fault> {
 
 fn in_names_of_head() -> Vec<Fault> {
     vec![
-        fault(8, "head's name of 255 bytes")
-            .plan(|_, plan, _| plan.items[0].names = [counted(&[7; 255]), counted(&[])].concat()),
-        fault(8, "head's title of 255 bytes")
-            .plan(|_, plan, _| plan.items[0].names = [counted(&[]), counted(&[7; 255])].concat()),
+        fault(8, "head's name of 254 bytes in the long form")
+            .plan(|_, plan, _| plan.items[0].names = [long_form(254, &[7; 254]), counted(&[])].concat()),
+        fault(8, "head's title of 254 bytes in the long form")
+            .plan(|_, plan, _| plan.items[0].names = [counted(&[]), long_form(254, &[7; 254])].concat()),
+        fault(8, "head's title of no bytes in the long form")
+            .plan(|_, plan, _| plan.items[0].names = [counted(&[]), long_form(0, &[])].concat()),
+        fault(8, "head's long name past its end").plan(|_, plan, _| {
+            plan.items[0].names = long_form(300, &[]);
+            plan.items[0].data.truncate(10);
+        }),
         fault(8, "head's name past its end").plan(|_, plan, _| {
             plan.items[0].names = vec![254, 0];
             plan.items[0].data.truncate(10);
@@ -382,6 +434,12 @@ fn in_header_of_head() -> Vec<Fault> {
             file.add(file.header.nbytes_name(), 1);
             file.add(directory(file, 0).nbytes_name(), 1);
         }),
+        fault(8, "both NbytesName without a long length")
+            .plan(|_, plan, _| plan.items[0].names = [counted(&[7; 255]), counted(&[])].concat())
+            .bytes(|file, _| {
+                file.add(file.header.nbytes_name(), -4);
+                file.add(directory(file, 0).nbytes_name(), -4);
+            }),
         fault(8, "head's SeekDir").bytes(|file, _| file.add(directory(file, 0).seek_dir(), 1)),
         fault(8, "head's SeekDir with its top bit").bytes(|file, _| {
             file.add(directory(file, 0).seek_dir(), top(directory(file, 0).seek_dir()));
@@ -632,7 +690,12 @@ fn in_data_of_lists() -> Vec<Fault> {
             file.add(file.copy(t).nbytes(), 1);
         }),
         fault(12, "copy's KeyLen above Nbytes").bytes(|file, t| file.put(file.copy(t).nbytes(), 29 - 1)),
-        fault(12, "copy's class of 255 bytes").bytes(|file, t| file.put(file.copy(t).class(), 255)),
+        fault(12, "copy's class in the long form")
+            .plan(|_, plan, t| class_of_four(plan, t.listed))
+            .bytes(|file, t| other_form(file, file.copy(t))),
+        fault(12, "copy's class past the list in the long form")
+            .plan(|_, plan, t| class_of_four(plan, t.listed))
+            .bytes(|file, t| long_class(file, file.copy(t), 1 << 31)),
     ]
 }
 
@@ -700,11 +763,18 @@ fn harmless() -> Vec<Fault> {
         fault(0, "nothing"),
         fault(0, "Compress").bytes(|file, _| swap(file, file.header.compress().at)),
         fault(0, "what is not read").bytes(|file, _| swap(file, file.header.rest())),
-        fault(0, "longest head").plan(|_, plan, _| {
+        fault(0, "longest head in the short form").plan(|_, plan, _| {
             plan.items[0].names = [counted(&[7; 254]), counted(&[8; 254])].concat();
         }),
+        fault(0, "head in the long form").plan(|_, plan, _| {
+            plan.items[0].names = [counted(&[7; 255]), counted(&[8; 256])].concat();
+        }),
+        fault(0, "long strings everywhere").plan(|_, plan, _| {
+            let strings = plan.items.iter_mut().flat_map(Item::any_strings);
+            strings.for_each(|string| string.resize(string.len().max(255), b'x'));
+        }),
         fault(0, "head's SeekPdir").bytes(|file, _| file.add(key(file, 0).seek_pdir(), 1)),
-        fault(0, "title of the free list").plan(|_, plan, t| plan.items[t.free].key.strings[2] = vec![9; 254]),
+        fault(0, "title of the free list").plan(|_, plan, t| plan.items[t.free].key.strings[2] = vec![9; 300]),
         fault(0, "directory that lists nothing").bytes(|file, t| {
             file.put(directory(file, t.dir).seek_keys(), 0);
             file.put(directory(file, t.dir).nbytes_keys(), 0);

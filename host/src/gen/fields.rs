@@ -133,7 +133,7 @@ impl KeyAt {
         Field::new(self.at + 18 + self.width, self.width)
     }
 
-    /// The length byte of the class.
+    /// The first length byte of the class.
     pub fn class(self) -> Field {
         Field::new(self.at + 18 + 2 * self.width, 1)
     }

@@ -1,7 +1,8 @@
 //! Whole files: a plan of pieces, and the bytes that it gives. A random plan gives a valid file.
 
 use super::fields::{low_bytes, DirectoryAt, Field, HeaderAt, KeyAt, SegmentAt};
-use super::{string_length, RawKey, Rng};
+use super::strings::{counted, lengthen, short_length};
+use super::{RawKey, Rng};
 use crate::ffi::part;
 use crate::model::audit::{Row, BEGIN, FREE_END};
 use crate::model::width;
@@ -30,7 +31,7 @@ pub struct Item {
     pub more: usize,
     /// Keeps the key's ObjLen.
     pub packed: bool,
-    /// The head's name and title, each with its length byte.
+    /// The head's name and title, each with its length before it.
     pub names: Vec<u8>,
     /// Version and dates of a directory header.
     pub version: u16,
@@ -79,7 +80,7 @@ impl Versions {
 
 impl Item {
     pub fn new(rng: &mut Rng, role: Role, class: &str, name: &str) -> Self {
-        let title = string_length(rng) / 8;
+        let title = short_length(rng) / 8;
         let strings = [class.as_bytes().to_vec(), name.as_bytes().to_vec(), rng.bytes(title)];
         let key = RawKey {
             nbytes: 0,
@@ -120,11 +121,16 @@ impl Item {
     fn segment(&self, nth: usize) -> u16 {
         self.segments[nth % self.segments.len()]
     }
-}
 
-/// A length byte and as many bytes.
-pub fn counted(bytes: &[u8]) -> Vec<u8> {
-    [&[bytes.len() as u8], bytes].concat()
+    /// The strings of its key that no rule reads: any do.
+    pub fn any_strings(&mut self) -> &mut [Vec<u8>] {
+        let first = match self.role {
+            Role::Object | Role::Loose => 0,
+            Role::Info => 2,
+            _ => 1,
+        };
+        &mut self.key.strings[first..]
+    }
 }
 
 /// The pieces of a file, and the order in which they stand in it.
@@ -512,8 +518,19 @@ pub fn plan(rng: &mut Rng, size: Size) -> Plan {
         info(rng, &mut plan);
     }
     free(rng, &mut plan);
+    long_strings(rng, &mut plan);
     shuffle(rng, &mut plan.order[1..]);
     plan
+}
+
+/// Some strings of keys become long ones, and now and then the head's name and title.
+fn long_strings(rng: &mut Rng, plan: &mut Plan) {
+    lengthen(rng, 40, plan.items.iter_mut().flat_map(Item::any_strings));
+    if rng.once_in(8) {
+        let mut names = [vec![b'a'], vec![]];
+        lengthen(rng, 2, names.iter_mut());
+        plan.items[0].names = names.map(|name| counted(&name)).concat();
+    }
 }
 
 /// The free list. In a wide file its segments are of any widths, and the final one ends anywhere behind END.
@@ -576,7 +593,7 @@ pub fn shuffle(rng: &mut Rng, items: &mut [usize]) {
 
 fn head(rng: &mut Rng, plan: &mut Plan) {
     let mut head = Item::new(rng, Role::Head, "TFile", "a");
-    let [name, title] = [string_length(rng), string_length(rng) / 8];
+    let [name, title] = [short_length(rng), short_length(rng) / 8];
     head.names = [counted(&rng.bytes(name)), counted(&rng.bytes(title))].concat();
     let tail = rng.pick(&[0, 0, 18, 30]);
     head.data = rng.bytes(tail);

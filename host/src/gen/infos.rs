@@ -1,7 +1,8 @@
 //! StreamerInfo records: a plan of classes and elements, and the bytes that it gives, with each field
 //! known by what it is.
 
-use super::{string_length, RawKey, Rng};
+use super::strings::{counted, lengthen, short_length};
+use super::{RawKey, Rng};
 use crate::model::streamer::{Row, ARRAY, CLASS_MASK, COUNT_MASK, INFO, KINDS, NEW_CLASS, REFERENCED};
 use std::collections::HashMap;
 
@@ -23,6 +24,14 @@ pub struct Element {
 pub struct Class {
     pub strings: [Vec<u8>; 2],
     pub elements: Vec<Element>,
+}
+
+impl Class {
+    /// Every string of it and of its elements.
+    pub fn strings_mut(&mut self) -> impl Iterator<Item = &mut Vec<u8>> {
+        let elements = self.elements.iter_mut().flat_map(|element| &mut element.strings);
+        elements.chain(&mut self.strings)
+    }
 }
 
 /// What a field is.
@@ -116,7 +125,7 @@ pub type Twist<'a> = Option<(usize, &'a [u8])>;
 /// Random strings and numbers for an element of this kind.
 fn element(rng: &mut Rng, kind: usize) -> Element {
     let strings = [0; 5].map(|_| {
-        let len = string_length(rng);
+        let len = short_length(rng);
         rng.bytes(len)
     });
     Element { kind, strings, numbers: [0; 9].map(|_| rng.u32()), own: [rng.u32(), rng.u32()] }
@@ -125,7 +134,7 @@ fn element(rng: &mut Rng, kind: usize) -> Element {
 /// A class with elements of these kinds.
 pub fn class(rng: &mut Rng, kinds: &[usize]) -> Class {
     let strings = [0; 2].map(|_| {
-        let len = string_length(rng);
+        let len = short_length(rng);
         rng.bytes(len)
     });
     Class { strings, elements: kinds.iter().map(|&kind| element(rng, kind)).collect() }
@@ -134,19 +143,18 @@ pub fn class(rng: &mut Rng, kinds: &[usize]) -> Class {
 /// The same with no string longer than `most`.
 pub fn short_class(rng: &mut Rng, kinds: &[usize], most: usize) -> Class {
     let mut class = class(rng, kinds);
-    let elements = class.elements.iter_mut().flat_map(|element| &mut element.strings);
-    for string in elements.chain(&mut class.strings) {
-        string.truncate(most);
-    }
+    class.strings_mut().for_each(|string| string.truncate(most));
     class
 }
 
-/// Up to four classes of up to six elements, of any kinds.
+/// Up to four classes of up to six elements, of any kinds. Some of their strings are long.
 pub fn classes(rng: &mut Rng) -> Vec<Class> {
     (0..rng.below(5))
         .map(|_| {
             let kinds: Vec<usize> = (0..rng.below(7)).map(|_| 1 + rng.below(10)).collect();
-            class(rng, &kinds)
+            let mut class = class(rng, &kinds);
+            lengthen(rng, 30, class.strings_mut());
+            class
         })
         .collect()
 }
@@ -164,8 +172,14 @@ pub fn build(rng: &mut Rng, at: u64, classes: &[Class], twist: Twist) -> Info {
 
 /// The same with a key of a version.
 pub fn build_of(rng: &mut Rng, version: u16, at: u64, classes: &[Class], twist: Twist) -> Info {
+    let key = key(rng, version, at);
+    build_with(rng, key, classes, twist)
+}
+
+/// The key of an info record, without KeyLen, Nbytes and ObjLen.
+pub fn key(rng: &mut Rng, version: u16, at: u64) -> RawKey {
     let strings = ["TList", "StreamerInfo", "Doubly linked list"].map(|string| string.as_bytes().to_vec());
-    let mut key = RawKey {
+    RawKey {
         nbytes: 0,
         version,
         objlen: 0,
@@ -175,7 +189,11 @@ pub fn build_of(rng: &mut Rng, version: u16, at: u64, classes: &[Class], twist: 
         seek_key: at,
         seek_pdir: 100,
         strings,
-    };
+    }
+}
+
+/// A record with this key; KeyLen, Nbytes and ObjLen are worked out.
+pub fn build_with(rng: &mut Rng, mut key: RawKey, classes: &[Class], twist: Twist) -> Info {
     let keylen = key.sum();
     key.keylen = keylen as u16;
     let mut builder =
@@ -225,8 +243,7 @@ impl Builder<'_> {
     }
 
     fn string(&mut self, string: &[u8]) -> usize {
-        let bytes = [&[string.len() as u8], string].concat();
-        self.put(What::String, &bytes)
+        self.put(What::String, &counted(string))
     }
 
     /// A ByteCount and what it counts.

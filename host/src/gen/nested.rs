@@ -1,7 +1,8 @@
 //! Files like those that are kept: a tree of directories in which each has the same to do, whatever
 //! the size of the file.
 
-use super::files::{counted, Item, Plan, Role};
+use super::files::{Item, Plan, Role};
+use super::strings::counted;
 use super::Rng;
 
 /// Pieces to a directory: itself, its keys list, objects that it lists, a gap and a loose record.

@@ -1,7 +1,8 @@
 //! Files of the benchmarks: valid, of exactly so many pieces, of several shapes. Most are made of directories in an
 //! order that makes the next one hard to find.
 
-use super::files::{counted, plan_of, shuffle, Item, Plan, Role};
+use super::files::{plan_of, shuffle, Item, Plan, Role};
+use super::strings::counted;
 use super::{nested, Rng};
 
 /// A name, and the plan of a file of so many pieces, a multiple of 20 and at least 300.

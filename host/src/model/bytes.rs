@@ -2,6 +2,22 @@
 
 use std::ops::Range;
 
+/// The first length byte of a string of as many bytes or more: its length follows in four bytes.
+const LONG: u8 = 255;
+
+/// What a string of so many bytes takes, with those of its length. Past the greatest number it is that number.
+pub fn stored(len: usize) -> usize {
+    len.saturating_add(if len < LONG.into() { 1 } else { 5 })
+}
+
+/// The bytes of a string's length, which stand before it.
+pub fn length_bytes(len: u32) -> Vec<u8> {
+    match u8::try_from(len) {
+        Ok(byte) if byte != LONG => vec![byte],
+        _ => [&[LONG][..], &len.to_be_bytes()].concat(),
+    }
+}
+
 /// Reads forward from an offset of `bytes`, and never past their end.
 pub struct Cursor<'a> {
     bytes: &'a [u8],
@@ -53,14 +69,14 @@ impl<'a> Cursor<'a> {
         self.array().map(i32::from_be_bytes)
     }
 
-    /// A length byte, 0 to 254, and as many bytes: the range of these.
+    /// A string, stored in the form that its length has: the range of its bytes.
     pub fn string(&mut self) -> Option<Range<usize>> {
-        let [len] = self.array()?;
-        if len == 255 {
-            return None;
-        }
+        let len = match self.u8()? {
+            LONG => self.u32().filter(|&len| len >= LONG.into())?,
+            len => len.into(),
+        };
         let start = self.at;
-        self.take(len.into())?;
+        self.take(len as usize)?;
         Some(start..self.at)
     }
 }

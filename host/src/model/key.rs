@@ -1,17 +1,22 @@
 //! Key headers, the pieces of a file, and the key writer.
 
-use super::bytes::Cursor;
+use super::bytes::{length_bytes, stored, Cursor};
 use super::{number, width, Answer};
 use std::ops::Range;
 
 /// The greatest ObjLen and Nbytes.
 const MOST_BYTES: u64 = 2_147_483_647;
-/// The longest string of a key.
-const LONGEST: usize = 254;
+/// The greatest KeyLen.
+const MOST_KEYLEN: usize = 32_767;
 
 /// The bytes of a key header before its strings.
 fn fixed(version: u32) -> usize {
     18 + 2 * width::of(version)
+}
+
+/// What a key header of a version takes, with strings of these lengths.
+fn sum_of(version: u32, lengths: [usize; 3]) -> usize {
+    lengths.into_iter().fold(fixed(version), |sum, len| sum.saturating_add(stored(len)))
 }
 
 /// The key header of a record. A string is its range of bytes in the file.
@@ -33,7 +38,7 @@ pub struct Key {
 impl Key {
     /// What its header takes.
     pub fn sum(&self) -> usize {
-        fixed(self.version.into()) + 1 + self.title.end - self.class.start
+        sum_of(self.version.into(), [&self.class, &self.name, &self.title].map(Range::len))
     }
 
     /// Whether nothing stands between the header and KeyLen.
@@ -103,12 +108,13 @@ pub fn read_key(bytes: &[u8], start: usize) -> Option<Key> {
     fits.then_some(key)
 }
 
-/// Whether a header whose strings are of a good length is well formed. `sum` is what it takes.
+/// Whether a header with strings in their right form is well formed. `sum` is what it takes.
 fn well_formed(nbytes: u32, version: u32, objlen: u32, keylen: usize, sum: usize) -> bool {
     (1..=width::MOST).contains(&version)
         && u64::from(objlen) <= MOST_BYTES
         && u64::from(nbytes) <= MOST_BYTES
         && sum <= keylen
+        && keylen <= MOST_KEYLEN
         && keylen as u64 <= u64::from(nbytes)
 }
 
@@ -130,13 +136,13 @@ pub struct NewKey<'a> {
 impl NewKey<'_> {
     /// What its header takes.
     pub fn sum(&self) -> usize {
-        fixed(self.version) + 3 + self.class.len() + self.name.len() + self.title.len()
+        sum_of(self.version, [self.class, self.name, self.title].map(<[u8]>::len))
     }
 }
 
 /// Writes a plain key header into `buf` at its SeekKey.
 pub fn write_key(key: &NewKey, buf: &mut [u8]) -> Answer {
-    if [key.class, key.name, key.title].iter().any(|string| string.len() > LONGEST) {
+    if key.sum() > MOST_KEYLEN {
         return Answer::refusal(number::NAME, 0);
     }
     let Some(header) = encode(key) else {
@@ -166,7 +172,7 @@ fn encode(key: &NewKey) -> Option<Vec<u8>> {
         header.extend(offset_bytes(offset, width::of(key.version))?);
     }
     for string in [key.class, key.name, key.title] {
-        header.push(u8::try_from(string.len()).ok()?);
+        header.extend(length_bytes(u32::try_from(string.len()).ok()?));
         header.extend(string);
     }
     Some(header)

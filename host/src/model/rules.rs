@@ -46,11 +46,13 @@ fn width(version: usize) -> usize {
     }
 }
 
-/// The string whose length byte is at `at`, and where it ends.
+/// The string whose first length byte is at `at`, and where it ends.
 fn string(file: &[u8], at: usize, end: usize) -> Option<(&[u8], usize)> {
-    let len = number(file, at, 1, end).filter(|&len| len < 255)?;
-    let next = at + 1 + len;
-    (next <= end).then(|| (&file[at + 1..next], next))
+    let first = number(file, at, 1, end)?;
+    let long = first == 255;
+    let (start, len) = if long { (at + 5, number(file, at + 1, 4, end)?) } else { (at + 1, first) };
+    let next = start + len;
+    (long == (len >= 255) && next <= end).then(|| (&file[start..next], next))
 }
 
 #[derive(Clone, Copy)]
@@ -78,7 +80,7 @@ fn key(file: &[u8], at: usize, end: usize) -> Option<Key<'_>> {
     let (plain, unpacked) = (keylen == sum, objlen + keylen == nbytes);
     let small = objlen < 1 << 31 && nbytes < 1 << 31 && (1..=2000).contains(&version);
     let (seek_key, seek_pdir) = (field(18, w)?, field(18 + w, w)?);
-    let well_formed = small && sum <= keylen && keylen <= nbytes;
+    let well_formed = small && sum <= keylen && keylen <= 32_767 && keylen <= nbytes;
     well_formed.then_some(Key { nbytes, keylen, plain, unpacked, seek_key, seek_pdir, class, name })
 }
 

@@ -1,5 +1,6 @@
 //! The reader of an unpacked StreamerInfo record.
 
+use super::bytes::Cursor;
 use super::key::{self, Key, Piece};
 use super::{number, Answer};
 use std::collections::HashMap;
@@ -110,16 +111,15 @@ impl<'a> Reader<'a> {
         widths.iter().try_for_each(|&width| self.field(width).map(drop))
     }
 
-    /// A string: the offset of its length byte, and its length.
+    /// A string, one field with the bytes of its length: the offset of the first of these, and its length.
     fn string(&mut self) -> Read<(usize, usize)> {
         let at = self.at;
-        let len = usize::from(self.field(1)?[0]);
-        self.at = at;
-        if len == 255 {
+        let mut cursor = Cursor::new(&self.record[..self.end], at);
+        let Some(string) = cursor.string() else {
             return bad(number::COUNT, at);
-        }
-        self.field(1 + len)?;
-        Ok((at, len))
+        };
+        self.at = cursor.at();
+        Ok((at, string.len()))
     }
 
     /// A string that must be empty.

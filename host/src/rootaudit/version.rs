@@ -1,7 +1,7 @@
 //! What the program was made of. The build script asks for commit and toolchain.
 
 /// The requests to document 01 that are in and change verdicts.
-const REQUESTS: &str = "01, 02";
+const REQUESTS: &str = "01, 02, 04";
 
 pub fn text() -> String {
     format!(

@@ -38,7 +38,7 @@ static void dates(void)
 static uint64_t write_x(uint32_t version, uint64_t seek_pdir, size_t name_len, uint8_t *buf, size_t buf_len,
                         uint64_t *place, uint64_t *count)
 {
-    static const uint8_t name[255] = {'x'};
+    static const uint8_t name[32725] = {'x'};
     *place = *count = 9;
     return rootmap_write_key(50, version, 10, 1960757165, -2, 100, seek_pdir, (const uint8_t *)"TObjString", 10, name,
                              name_len, (const uint8_t *)"", 0, buf, buf_len, place, count);
@@ -56,8 +56,10 @@ static void write_and_read(void)
 
     memset(buf, 0x5a, sizeof buf);
     memset(expected, 0x5a, sizeof expected);
-    check(write_x(4, 100, 255, buf, sizeof buf, &place, &count) == 15 && place == 0 && count == 0,
-          "a long name is 15");
+    check(write_x(4, 100, 32725, buf, sizeof buf, &place, &count) == 15 && place == 0 && count == 0,
+          "a name with which the sum is 32,768 is 15");
+    check(write_x(4, 100, 32724, buf, sizeof buf, &place, &count) == 16 && place == 0 && count == 0,
+          "a name that its record does not hold is 16");
     check(write_x(2001, 100, 1, buf, sizeof buf, &place, &count) == 16 && place == 0 && count == 0,
           "version 2001 is 16");
     check(write_x(4, FAR, 1, buf, sizeof buf, &place, &count) == 16 && place == 0 && count == 0,
@@ -110,11 +112,35 @@ static void write_and_read_wide(void)
     check(place == 0 && count == 50 && memcmp(fields, record, sizeof fields) == 0, "the wide record's fields");
 }
 
+/* A name of 255 bytes has its length in five: 255, then four bytes. */
+static void write_and_read_long(void)
+{
+    static const uint8_t name[255] = {'x'}, length[5] = {255, 0, 0, 0, 255};
+    uint8_t buf[410];
+    uint64_t fields[15], place = 9, count = 9;
+
+    memset(buf, 0x5a, sizeof buf);
+    check(rootmap_write_key(310, 4, 12, 0, 1, 100, 100, (const uint8_t *)"TObjString", 10, name, sizeof name,
+                            (const uint8_t *)"", 0, buf, sizeof buf, &place, &count) == 0 &&
+              place == 0 && count == 298,
+          "a name of 255 bytes is written");
+    check(memcmp(buf + 137, length, sizeof length) == 0 && memcmp(buf + 142, name, sizeof name) == 0,
+          "its length in five bytes, and its bytes");
+    check(rootmap_read_piece(buf, sizeof buf, 100, fields, &place, &count) == 0 && count == 310, "it is read");
+    check(fields[5] == 298 && fields[11] == 142 && fields[12] == 255 && fields[13] == 398 && fields[14] == 0,
+          "KeyLen, and where name and title stand");
+
+    buf[141] = 254;
+    check(rootmap_read_piece(buf, sizeof buf, 100, fields, &place, &count) == 6 && place == 100,
+          "254 in five bytes is 6");
+}
+
 int main(void)
 {
     dates();
     write_and_read();
     write_and_read_wide();
+    write_and_read_long();
     if (failed)
         return 1;
     printf("all checks passed\n");

@@ -1,5 +1,4 @@
 use Rattle.wire.proofs.Answers.{gives}
-use native.Mathlib.Omega.{arith}
 use borrow.Author.Needs.{needs}
 use denote.Ref.{now}
 use mathlib.Core.Path.{_≡_, _∙_, sym}

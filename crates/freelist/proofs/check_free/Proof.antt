@@ -1,6 +1,5 @@
 use native.Mathlib.Omega.{arith}
 use borrow.Author.Needs.{needs}
-use denote.Ref.{now}
 use mathlib.Core.Path.{_∙_, sym}
 use Rattle.freelist.proofs.Frees.{free-is-head, free-nowhere, free-bad, free-segments}
 use Rattle.freelist.proofs.check_free.Statement.{statement}

@@ -1,4 +1,3 @@
-use mathlib.Core.Path.{sym}
 use Prim.Native.Nat.{_+_}
 use Rattle.record.proofs.Tests.{one-eq}
 use borrow.Author.Needs.{needs}

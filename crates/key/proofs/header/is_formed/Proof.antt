@@ -22,9 +22,12 @@ returns-6 : tie.Need-returns-6
 returns-6 c = not-within (λ h. omega (arith, h))
 
 returns-7 : tie.Need-returns-7
-returns-7 c = within (omega arith)
+returns-7 c = not-within (λ h. omega (arith, h))
+
+returns-8 : tie.Need-returns-8
+returns-8 c = within (omega arith)
 
 pub is-formed-spec : {M : Type 1} → statement M
 is-formed-spec =
     tie.close
-    (tie.spec returns returns-2 returns-3 returns-4 returns-5 returns-6 returns-7)
+    (tie.spec returns returns-2 returns-3 returns-4 returns-5 returns-6 returns-7 returns-8)
