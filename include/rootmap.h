@@ -146,6 +146,10 @@ uint64_t rootmap_audit(const uint8_t *file, size_t file_len, uint64_t *start, si
  * numbers. Every `at` is taken; neither the file header nor another piece is read. There is room for
  * table_len / 6 rows, rounded down.
  *
+ * Where the Version of the record's list is 4 or more, a string, the list's option, stands after each of
+ * its objects. It is passed over, and is in no row: in Version 4 a length byte 0 to 255 and its bytes,
+ * from Version 5 on a string as everywhere else. One that is cut or missing is 21.
+ *
  * Success: 0, place 0, count the rows, one for each element in the order of the record:
  *    0  the index of the class whose element it is, from 0
  *    1  its kind, 1 to 10: TStreamerBase, TStreamerBasicType, TStreamerString, TStreamerBasicPointer,

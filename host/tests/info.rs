@@ -6,11 +6,13 @@ use kirovadzun_host::compare::info::read_info;
 use kirovadzun_host::compare::Tally;
 use kirovadzun_host::ffi::Answer;
 use kirovadzun_host::gen::infos::{
-    all_kinds, build, build_of, class, classes, get32, new_tag, put32, Class, Field, Info, What,
+    all_kinds, build, build_of, class, get32, list, new_tag, put32, Field, Info, List, What, LEAST_OPTIONS,
+    LIST_VERSIONS,
 };
-use kirovadzun_host::gen::strings::{counted, long_form};
+use kirovadzun_host::gen::strings::{counted, long_form, plain_form};
 use kirovadzun_host::gen::{self, Rng};
 use kirovadzun_host::model::streamer::{ARRAY, CLASS_MASK, INFO, KINDS, NEW_CLASS, REFERENCED};
+use std::collections::BTreeMap;
 use std::fs;
 
 /// Random bytes, the record at `at`, and random bytes after it.
@@ -31,16 +33,14 @@ fn refused(tally: &mut Tally, record: &[u8], number: u64, at: usize, what: &str)
 /// Versions of keys with four-byte offsets and with eight-byte ones.
 const VERSIONS: [u16; 6] = [1, 4, 1000, 1001, 1004, 2000];
 
-/// A few records with every kind, built at 0.
-fn samples(seed: u64) -> Vec<(Vec<Class>, Info)> {
+/// A few records with every kind, built at 0, with and without options.
+fn samples(seed: u64) -> [(List, Info); LIST_VERSIONS.len()] {
     let mut rng = Rng::new(seed);
-    (0..4)
-        .map(|_| {
-            let classes = all_kinds(&mut rng);
-            let info = build(&mut rng, 0, &classes, None);
-            (classes, info)
-        })
-        .collect()
+    LIST_VERSIONS.map(|version| {
+        let list = all_kinds(&mut rng, version);
+        let info = build(&mut rng, 0, &list, None);
+        (list, info)
+    })
 }
 
 #[test]
@@ -63,8 +63,8 @@ fn wide_keys() {
     let mut tally = Tally::new("read_info, keys with eight-byte offsets");
     for seed in 0..20 {
         let mut rng = Rng::new(seed);
-        let classes = all_kinds(&mut rng);
-        let [narrow, wide] = [4, 1004].map(|version| build_of(&mut Rng::new(9), version, 0, &classes, None));
+        let list = all_kinds(&mut rng, LIST_VERSIONS[seed as usize % LIST_VERSIONS.len()]);
+        let [narrow, wide] = [4, 1004].map(|version| build_of(&mut Rng::new(9), version, 0, &list, None));
         assert_eq!([narrow.keylen, wide.keylen], [64, 72]);
         let first = wide.fields.iter().find(|field| field.what == What::Tag(INFO)).unwrap();
         assert_eq!(first.at, 97);
@@ -88,9 +88,9 @@ fn valid_records() {
     let mut rng = Rng::new(201);
     for _ in 0..12_000 {
         let at = rng.pick(&[0, 0, 1, 100, 255, 4097]);
-        let classes = classes(&mut rng);
+        let list = list(&mut rng);
         let version = rng.pick(&VERSIONS);
-        let info = build_of(&mut rng, version, at as u64, &classes, None);
+        let info = build_of(&mut rng, version, at as u64, &list, None);
         let file = file_with(&mut rng, at, &info.bytes);
         let rows = info.rows.len();
         let len = 6 * rows + rng.below(14);
@@ -108,9 +108,10 @@ fn valid_records() {
 fn every_byte() {
     let mut tally = Tally::new("read_info, each byte changed");
     let mut rng = Rng::new(202);
-    for (at, version) in [(0, 4), (0, 1004), (100, 4), (1000, 2000), (70_000, 1000), (70_001, 1001)] {
-        let classes = all_kinds(&mut rng);
-        let info = build_of(&mut rng, version, at as u64, &classes, None);
+    let keys = [(0, 4), (0, 1004), (100, 4), (1000, 2000), (70_000, 1000), (70_001, 1001)];
+    for ((at, version), list_version) in keys.into_iter().zip(LIST_VERSIONS) {
+        let list = all_kinds(&mut rng, list_version);
+        let info = build_of(&mut rng, version, at as u64, &list, None);
         let mut file = file_with(&mut rng, at, &info.bytes);
         // A file this long is only read around the record.
         let from = at.saturating_sub(1);
@@ -193,7 +194,7 @@ fn tags(info: &Info) -> Vec<(usize, Field, &'static str)> {
 fn new_tags() {
     let mut tally = Tally::new("read_info, other new class tags");
     let mut rng = Rng::new(205);
-    for (classes, info) in samples(205) {
+    for (list, info) in samples(205) {
         let mut seen: Vec<&str> = Vec::new();
         for (index, field, class) in tags(&info) {
             let unknown: [&[u8]; 9] = [
@@ -208,11 +209,11 @@ fn new_tags() {
                 b"TStreamerSTLStringg",
             ];
             for name in unknown {
-                let other = build(&mut rng, 0, &classes, Some((index, &new_tag(name))));
+                let other = build(&mut rng, 0, &list, Some((index, &new_tag(name))));
                 refused(&mut tally, &other.bytes, 22, field.at, "an unknown class");
             }
             for name in KINDS.into_iter().chain([INFO, ARRAY]) {
-                let other = build(&mut rng, 0, &classes, Some((index, &new_tag(name.as_bytes()))));
+                let other = build(&mut rng, 0, &list, Some((index, &new_tag(name.as_bytes()))));
                 let answer = read(&mut tally, &other.bytes);
                 if seen.contains(&name) || !fits(name, class) {
                     assert_eq!(answer, Answer::refusal(22, field.at as u64), "{name} for {class}");
@@ -254,7 +255,7 @@ fn unterminated_tags() {
 fn references() {
     let mut tally = Tally::new("read_info, other references");
     let mut rng = Rng::new(207);
-    for (classes, info) in samples(207) {
+    for (list, info) in samples(207) {
         let tags = tags(&info);
         for &(index, field, class) in &tags {
             // To each tag, rightly, counted from the data, without the 2 and so on.
@@ -270,7 +271,7 @@ fn references() {
                     (right & !CLASS_MASK, false),
                     (right | 1 << 30, false),
                 ] {
-                    let other = build(&mut rng, 0, &classes, Some((index, &number.to_be_bytes())));
+                    let other = build(&mut rng, 0, &list, Some((index, &number.to_be_bytes())));
                     let answer = read(&mut tally, &other.bytes);
                     if !is_right {
                         assert_eq!(answer, Answer::refusal(22, field.at as u64), "{number:#x} {named} for {class}");
@@ -278,7 +279,7 @@ fn references() {
                 }
             }
             for number in [0, 1, 2, CLASS_MASK, CLASS_MASK | 2, CLASS_MASK - 1, NEW_CLASS - 1] {
-                let other = build(&mut rng, 0, &classes, Some((index, &number.to_be_bytes())));
+                let other = build(&mut rng, 0, &list, Some((index, &number.to_be_bytes())));
                 refused(&mut tally, &other.bytes, 22, field.at, "a reference to nothing");
             }
         }
@@ -286,52 +287,44 @@ fn references() {
     tally.finish(8_000, &[0, 21, 22]);
 }
 
-/// Faults of a field that are the same whatever follows it.
+/// Other bytes for a field of a record whose list has this Version, and the number that they bring, whatever follows.
+fn others(version: u16, what: What, stored: &[u8]) -> Vec<(Vec<u8>, u64)> {
+    let letters = |len| vec![b'x'; len];
+    let texts = |lens: &[usize]| lens.iter().map(|&len| counted(&letters(len))).collect::<Vec<_>>();
+    let numbers = |numbers: &[u32]| numbers.iter().map(|number| number.to_be_bytes().to_vec()).collect::<Vec<_>>();
+    let (good, bad) = match what {
+        What::NoName => (vec![], texts(&[1, 2, 254, 255, 256])),
+        What::Option if version == LEAST_OPTIONS => {
+            ([0, 1, 253, 254, 255].map(|len| plain_form(&letters(len))).to_vec(), vec![])
+        }
+        What::String | What::Option => (texts(&[0, 1, 253, 254, 255, 256]), vec![long_form(254, &letters(254))]),
+        What::Bits => (numbers(&[!REFERENCED]), numbers(&[REFERENCED, u32::MAX, get32(stored, 0) | REFERENCED])),
+        What::LowerBound => (vec![], numbers(&[1, 256, 1 << 16, 1 << 31, u32::MAX])),
+        What::Version => {
+            ([0u16, 1, 4, 5, 1000, 0x4000, u16::MAX].map(|version| version.to_be_bytes().to_vec()).to_vec(), vec![])
+        }
+        What::Number => (numbers(&[0, 16, u32::MAX]), vec![]),
+        _ => (vec![], vec![]),
+    };
+    let number = if what == What::Bits { 23 } else { 21 };
+    let good = good.into_iter().map(|bytes| (bytes, 0));
+    good.chain(bad.into_iter().map(|bytes| (bytes, number))).collect()
+}
+
+/// Each field with other bytes; then with a byte more or less, or none: what follows is out of step, or ends early.
 #[test]
 fn fields() {
     let mut tally = Tally::new("read_info, each field changed");
     let mut rng = Rng::new(208);
-    let text = |len: usize| counted(&vec![b'x'; len]);
-    for (classes, info) in samples(208) {
+    for (list, info) in samples(208) {
         for (index, field) in info.fields.iter().enumerate() {
-            let mut with = |bytes: &[u8]| build(&mut rng, 0, &classes, Some((index, bytes))).bytes;
-            match field.what {
-                What::NoName => {
-                    for len in [1, 2, 254, 255, 256] {
-                        refused(&mut tally, &with(&text(len)), 21, field.at, "a name");
-                    }
-                }
-                What::String => {
-                    refused(&mut tally, &with(&long_form(254, &[b'x'; 254])), 21, field.at, "the long form");
-                    for len in [0, 1, 253, 254, 255, 256] {
-                        assert_eq!(read(&mut tally, &with(&text(len))), Answer::success(16));
-                    }
-                }
-                What::Bits => {
-                    for bits in [REFERENCED, u32::MAX, get32(&info.bytes, field.at) | REFERENCED] {
-                        refused(&mut tally, &with(&bits.to_be_bytes()), 23, field.at, "referenced");
-                    }
-                    assert_eq!(read(&mut tally, &with(&(!REFERENCED).to_be_bytes())), Answer::success(16));
-                }
-                What::LowerBound => {
-                    for bound in [1, 256, 1 << 16, 1 << 31, u32::MAX] {
-                        refused(&mut tally, &with(&bound.to_be_bytes()), 21, field.at, "a lower bound");
-                    }
-                }
-                What::Version => {
-                    for version in [0u16, 1, 1000, 0x4000, u16::MAX] {
-                        assert_eq!(read(&mut tally, &with(&version.to_be_bytes())), Answer::success(16));
-                    }
-                }
-                What::Number => {
-                    for number in [0, 16, u32::MAX] {
-                        assert_eq!(read(&mut tally, &with(&number.to_be_bytes())), Answer::success(16));
-                    }
-                }
-                _ => {}
-            }
-            // A byte more or less, or none: what follows is out of step, or ends early.
+            let mut with = |bytes: &[u8]| build(&mut rng, 0, &list, Some((index, bytes))).bytes;
             let bytes = &info.bytes[field.at..field.at + field.len];
+            for (bytes, number) in others(list.version, field.what, bytes) {
+                let answer = read(&mut tally, &with(&bytes));
+                let expected = if number == 0 { Answer::success(16) } else { Answer::refusal(number, field.at as u64) };
+                assert_eq!(answer, expected, "{field:?} {bytes:?}");
+            }
             for bytes in [&bytes[1..], &bytes[..0], &[bytes, &[0]].concat(), &[&[0], bytes].concat()] {
                 read(&mut tally, &with(bytes));
             }
@@ -367,6 +360,25 @@ fn numbers_of_objects() {
     tally.finish(100, &[21]);
 }
 
+/// A fault of a field, the same whatever follows: its number. None for most fields.
+fn damage(rng: &mut Rng, record: &mut [u8], field: &Field) -> Option<u64> {
+    let bytes = &mut record[field.at..field.at + field.len];
+    match field.what {
+        What::Tag(_) => bytes[5] ^= 2,
+        What::Reference(_) => bytes[3] ^= 1,
+        What::Bits => bytes[3] |= 16,
+        What::LowerBound => bytes[0] = 9,
+        What::ByteCount => bytes[0] |= 0x80,
+        What::NoName => bytes[0] = rng.pick(&[1, 255]),
+        _ => return None,
+    }
+    match field.what {
+        What::Tag(_) | What::Reference(_) => Some(22),
+        What::Bits => Some(23),
+        _ => Some(21),
+    }
+}
+
 /// Two fields with faults of their own: the first decides.
 #[test]
 fn first_fault() {
@@ -376,44 +388,17 @@ fn first_fault() {
     for _ in 0..20_000 {
         let (_, info) = &samples[rng.below(samples.len())];
         let mut record = info.bytes.clone();
-        let mut faults = Vec::new();
+        let mut faults = BTreeMap::new();
         while faults.len() < 2 {
             let field = info.fields[rng.below(info.fields.len())];
-            let number = match field.what {
-                What::Tag(_) => {
-                    record[field.at + 5] ^= 2;
-                    22
-                }
-                What::Reference(_) => {
-                    record[field.at + 3] ^= 1;
-                    22
-                }
-                What::Bits => {
-                    record[field.at + 3] |= 16;
-                    23
-                }
-                What::LowerBound => {
-                    record[field.at] = 9;
-                    21
-                }
-                What::ByteCount => {
-                    record[field.at] |= 0x80;
-                    21
-                }
-                What::NoName => {
-                    record[field.at] = rng.pick(&[1, 255]);
-                    21
-                }
-                _ => continue,
-            };
-            if faults.iter().all(|&(at, _)| at != field.at) {
-                faults.push((field.at, number));
-            } else {
-                record = info.bytes.clone();
-                faults.clear();
+            if faults.contains_key(&field.at) {
+                continue;
+            }
+            if let Some(number) = damage(&mut rng, &mut record, &field) {
+                faults.insert(field.at, number);
             }
         }
-        let (at, number) = *faults.iter().min().unwrap();
+        let (at, number) = faults.pop_first().unwrap();
         refused(&mut tally, &record, number, at, "the first of two");
     }
     tally.finish(20_000, &[21, 22, 23]);
@@ -425,8 +410,10 @@ fn tables() {
     let mut rng = Rng::new(211);
     for rows in 0..12 {
         let kinds: Vec<usize> = (0..rows).map(|_| 1 + rng.below(10)).collect();
-        let classes = [class(&mut rng, &[]), class(&mut rng, &kinds[..rows / 2]), class(&mut rng, &kinds[rows / 2..])];
-        let info = build(&mut rng, 0, &classes, None);
+        let kinds = [&[], &kinds[..rows / 2], &kinds[rows / 2..]];
+        let classes = kinds.map(|kinds| class(&mut rng, kinds)).to_vec();
+        let list = List { version: rng.pick(&LIST_VERSIONS), classes };
+        let info = build(&mut rng, 0, &list, None);
         let mut referenced = info.bytes.clone();
         // The last number of the last TObject, or the list's.
         let bits = info.fields.iter().rev().find(|field| field.what == What::Bits).unwrap();
@@ -459,9 +446,9 @@ fn with_key(at: u64, data: &[u8], strings: [&str; 3], more: usize, packed: i32) 
 fn other_records() {
     let mut tally = Tally::new("read_info, what is no info record");
     let mut rng = Rng::new(212);
-    let classes = all_kinds(&mut rng);
+    let list = all_kinds(&mut rng, 5);
     // Back-references count from the record's start, so this title keeps KeyLen 64.
-    let data = build(&mut rng, 0, &classes, None).bytes[64..].to_vec();
+    let data = build(&mut rng, 0, &list, None).bytes[64..].to_vec();
     let title = "Doubly linked list";
     for (strings, more, packed, number) in [
         (["TList", "StreamerInfo", title], 0, 0, 0),
@@ -495,8 +482,8 @@ fn other_records() {
 fn places() {
     let mut tally = Tally::new("read_info, every place, and far past the end");
     let mut rng = Rng::new(213);
-    let classes = all_kinds(&mut rng);
-    let info = build(&mut rng, 100, &classes, None);
+    let list = all_kinds(&mut rng, 5);
+    let info = build(&mut rng, 100, &list, None);
     let mut file = file_with(&mut rng, 100, &info.bytes);
     file.extend(gen::gap(&mut rng, 30));
     let gap = file.len() as u64 - 30;
@@ -541,9 +528,9 @@ fn damaged_records() {
     let mut rng = Rng::new(215);
     for _ in 0..40_000 {
         let at = rng.pick(&[0, 0, 3, 100]);
-        let classes = classes(&mut rng);
+        let list = list(&mut rng);
         let version = rng.pick(&VERSIONS);
-        let info = build_of(&mut rng, version, at as u64, &classes, None);
+        let info = build_of(&mut rng, version, at as u64, &list, None);
         let mut file = file_with(&mut rng, at, &info.bytes);
         for _ in 0..1 + rng.below(3) {
             let place = at + info.fields[rng.below(info.fields.len())].at;

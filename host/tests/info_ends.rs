@@ -24,10 +24,10 @@ struct Sample {
 }
 
 impl Sample {
-    fn new(seed: u64, at: usize) -> Self {
-        let mut rng = Rng::new(seed);
-        let classes = all_kinds(&mut rng);
-        Sample { at, info: build(&mut rng, at as u64, &classes, None) }
+    fn new(version: u16, at: usize) -> Self {
+        let mut rng = Rng::new(230 + u64::from(version));
+        let list = all_kinds(&mut rng, version);
+        Sample { at, info: build(&mut rng, at as u64, &list, None) }
     }
 
     /// The record is 21 at this offset.
@@ -38,8 +38,9 @@ impl Sample {
     }
 }
 
-fn samples() -> [Sample; 2] {
-    [Sample::new(230, 0), Sample::new(231, 100)]
+/// Lists of Versions 3, 4 and 5: without options, and with short ones.
+fn samples() -> [Sample; 3] {
+    [Sample::new(3, 0), Sample::new(4, 9), Sample::new(5, 100)]
 }
 
 /// The innermost open object ends at a byte, then the two innermost, and so on up to the list: the field that

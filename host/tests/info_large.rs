@@ -5,49 +5,61 @@ mod zeros;
 use kirovadzun_host::compare::info::read_info;
 use kirovadzun_host::compare::Tally;
 use kirovadzun_host::ffi::{number, Answer};
-use kirovadzun_host::gen::infos::{all_kinds, build_of, get32, put32, What};
+use kirovadzun_host::gen::infos::{all_kinds, build_of, get32, put32, What, LIST_VERSIONS};
 use kirovadzun_host::gen::strings::counted;
 use kirovadzun_host::gen::Rng;
+use kirovadzun_host::model::streamer::Row;
 use zeros::Zeros;
 
-/// A record is read and its fault has a place there; but from 2^32 on a four-byte SeekKey cannot be its place.
+/// Reads the record at `at`, where zeros stand again afterwards.
+fn read(tally: &mut Tally, zeros: &mut Zeros, at: usize, record: &[u8]) -> (Answer, Vec<Row>) {
+    zeros.put(at, record);
+    let read = read_info(tally, zeros.bytes(), at as u64, 96);
+    zeros.put(at, &vec![0; record.len()]);
+    read
+}
+
+/// A record is read, and a fault of its last TObject or of its last option has a place there; but from 2^32 on a
+/// four-byte SeekKey cannot be its place.
 #[test]
 fn far_records() {
     let Some(mut zeros) = Zeros::new() else { return };
     let mut tally = Tally::new("read_info, places near 2^31 and 2^32");
     let mut rng = Rng::new(220);
     let places = [(1 << 31) - 9, 1 << 31, (1 << 32) - 3000, (1 << 32) - 9, (1 << 32) - 1, 1 << 32, (1 << 32) + 100];
-    for (at, version) in places.into_iter().flat_map(|at: usize| [(at, 4), (at, 1004)]) {
-        let classes = all_kinds(&mut rng);
-        let info = build_of(&mut rng, version, at as u64, &classes, None);
-        let bits = info.fields.iter().rev().find(|field| field.what == What::Bits).unwrap();
-        zeros.put(at, &info.bytes);
-        let good = read_info(&mut tally, zeros.bytes(), at as u64, 96);
-        zeros.put(at + bits.at, &[255; 4]);
-        let referenced = read_info(&mut tally, zeros.bytes(), at as u64, 96).0;
-        if at < 1 << 32 || version > 1000 {
-            assert_eq!(good, (Answer::success(16), info.rows));
-            assert_eq!(referenced, Answer::refusal(23, (at + bits.at) as u64));
-        } else {
-            assert_eq!([good.0, referenced], [Answer::refusal(6, at as u64); 2]);
+    let keys = places.into_iter().flat_map(|at: usize| [(at, 4), (at, 1004)]);
+    for ((at, version), list_version) in keys.flat_map(|key| LIST_VERSIONS.map(|list_version| (key, list_version))) {
+        let list = all_kinds(&mut rng, list_version);
+        let info = build_of(&mut rng, version, at as u64, &list, None);
+        let is_place = at < 1 << 32 || version > 1000;
+        let refused = || (Answer::refusal(number::KEY, at as u64), vec![]);
+        let expected = |answer, rows| if is_place { (answer, rows) } else { refused() };
+        assert_eq!(read(&mut tally, &mut zeros, at, &info.bytes), expected(Answer::success(16), info.rows));
+        // An option of 255 bytes, or of 2^32 - 1, ends past the list.
+        let faults = [(What::Bits, &[255; 4][..], number::REFERENCED), (What::Option, &[255; 5], number::COUNT)];
+        for (what, bytes, number) in faults {
+            let Some(nth) = info.fields.iter().rposition(|field| field.what == what) else { continue };
+            let bad = build_of(&mut rng, version, at as u64, &list, Some((nth, bytes)));
+            let refusal = Answer::refusal(number, (at + bad.fields[nth].at) as u64);
+            assert_eq!(read(&mut tally, &mut zeros, at, &bad.bytes), expected(refusal, vec![]));
         }
-        zeros.put(at, &vec![0; info.bytes.len()]);
     }
-    tally.finish(28, &[0, 6, 23]);
+    tally.finish(224, &[0, number::KEY, number::COUNT, number::REFERENCED]);
 }
 
-/// The last string of a record is lengthened by so many zeros that the list's ByteCount is the greatest there is: it is
-/// read. A length of one more ends past the innermost open end, 21 at the string.
+/// The last string of a record, or its last option, is lengthened by so many zeros that the list's ByteCount is the
+/// greatest there is: it is read. A length of one more ends past the innermost open end, 21 at the string.
 #[test]
 fn longest_string() {
     let Some(mut zeros) = Zeros::new() else { return };
     let mut tally = Tally::new("read_info, a string of nearly 2^30 bytes");
-    for version in [4, 1004] {
+    for (version, what) in [4, 1004].into_iter().flat_map(|version| [(version, What::String), (version, What::Option)])
+    {
         let mut rng = Rng::new(221);
-        let classes = all_kinds(&mut rng);
-        let whole = build_of(&mut rng, version, 0, &classes, None);
-        let last = whole.fields.iter().rposition(|field| field.what == What::String).unwrap();
-        let info = build_of(&mut rng, version, 0, &classes, Some((last, &counted(&[0; 255]))));
+        let list = all_kinds(&mut rng, 5);
+        let whole = build_of(&mut rng, version, 0, &list, None);
+        let last = whole.fields.iter().rposition(|field| field.what == what).unwrap();
+        let info = build_of(&mut rng, version, 0, &list, Some((last, &counted(&[0; 255]))));
         let field = info.fields[last];
         let more = (1 << 31) - 1 - get32(&info.bytes, info.keylen);
         let mut head = info.bytes[..field.at + field.len].to_vec();
@@ -67,5 +79,5 @@ fn longest_string() {
         }
         zeros.put(field.at + field.len + more as usize, &vec![0; info.bytes.len()]);
     }
-    tally.finish(4, &[0, number::COUNT]);
+    tally.finish(8, &[0, number::COUNT]);
 }

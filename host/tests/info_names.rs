@@ -6,11 +6,11 @@ use edge::Edge;
 use kirovadzun_host::compare::info::read_info;
 use kirovadzun_host::compare::Tally;
 use kirovadzun_host::ffi::{number, Answer};
-use kirovadzun_host::gen::infos::{build, new_tag, short_class, Class, Info, What};
+use kirovadzun_host::gen::infos::{build, new_tag, short_class, Info, List, What};
 use kirovadzun_host::gen::Rng;
 use kirovadzun_host::model::streamer::Row;
+use std::fs;
 use std::ops::Range;
-use std::{fs, slice};
 
 /// Document 002's names: of the list's objects, of their arrays, and of elements, kinds 1 to 10.
 const NAMES: [&[u8]; 12] = [
@@ -48,8 +48,8 @@ fn class_at(position: usize, name: &[u8]) -> Option<usize> {
 struct Tags {
     tally: Tally,
     rng: Rng,
-    /// A class with one element, for each kind.
-    classes: Vec<Class>,
+    /// A list of one class with one element, for each kind.
+    lists: Vec<List>,
     /// The new tag at each position, as an index into a record's fields.
     fields: Vec<usize>,
     edge: Edge,
@@ -60,18 +60,19 @@ struct Tags {
 impl Tags {
     fn new(label: &'static str) -> Self {
         let mut rng = Rng::new(240);
-        let classes: Vec<Class> = (1..=KINDS).map(|kind| short_class(&mut rng, &[kind], 3)).collect();
-        let info = build(&mut rng, 0, &classes[..1], None);
+        let list = |kind| List::bare(vec![short_class(&mut rng, &[kind], 3)]);
+        let lists: Vec<List> = (1..=KINDS).map(list).collect();
+        let info = build(&mut rng, 0, &lists[0], None);
         let tags = info.fields.iter().enumerate().filter(|(_, field)| matches!(field.what, What::Tag(_)));
         let fields: Vec<usize> = tags.map(|(index, _)| index).collect();
         assert_eq!(fields.len(), POSITIONS.len());
-        Tags { tally: Tally::new(label), rng, classes, fields, edge: Edge::new(), taken: 0 }
+        Tags { tally: Tally::new(label), rng, lists, fields, edge: Edge::new(), taken: 0 }
     }
 
     /// A record with this tag at a position. Its element is of the class that stands there, or else of any kind.
     fn record(&mut self, position: usize, tag: &[u8], class: Option<usize>) -> Info {
         let kind = class.and_then(|class| class.checked_sub(FIRST_KIND)).unwrap_or_else(|| self.rng.below(KINDS));
-        build(&mut self.rng, 0, slice::from_ref(&self.classes[kind]), Some((self.fields[position], tag)))
+        build(&mut self.rng, 0, &self.lists[kind], Some((self.fields[position], tag)))
     }
 
     fn expect(&mut self, file: &[u8], expected: (Answer, Vec<Row>), what: &dyn Fn() -> String) {

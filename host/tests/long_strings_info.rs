@@ -1,14 +1,16 @@
 //! Strings of 255 bytes and more in StreamerInfo records: in every string of a record, and in its key.
 
 mod edge;
+mod stored;
 
 use edge::Edge;
 use kirovadzun_host::compare::info::read_info;
 use kirovadzun_host::compare::Tally;
 use kirovadzun_host::ffi::{number, Answer};
-use kirovadzun_host::gen::infos::{all_kinds, build, build_with, key, Class, Info, What};
+use kirovadzun_host::gen::infos::{all_kinds, build, build_with, key, Info, List, What, LIST_VERSIONS};
 use kirovadzun_host::gen::strings::{claims, counted, long_form};
 use kirovadzun_host::gen::Rng;
+use stored::stored;
 
 /// The elements of a sample, and a table with room for all.
 const ELEMENTS: u64 = 16;
@@ -20,17 +22,9 @@ fn refused(offset: usize) -> Answer {
     Answer::refusal(number::COUNT, offset as u64)
 }
 
-/// The rule: a string as it is stored.
-fn stored(string: &[u8]) -> Vec<u8> {
-    match string.len() {
-        len @ 0..=254 => [&[len as u8], string].concat(),
-        len => [&[255, (len >> 24) as u8, (len >> 16) as u8, (len >> 8) as u8, len as u8], string].concat(),
-    }
-}
-
 /// Each row's offsets are those of the first length bytes of its element's name and type name.
-fn offsets_hold(classes: &[Class], info: &Info) -> bool {
-    let elements = classes.iter().flat_map(|class| &class.elements);
+fn offsets_hold(list: &List, info: &Info) -> bool {
+    let elements = list.classes.iter().flat_map(|class| &class.elements);
     info.rows.iter().zip(elements).all(|(row, element)| {
         let [name, _, type_name, ..] = &element.strings;
         [(row[2], name), (row[3], type_name)]
@@ -39,10 +33,10 @@ fn offsets_hold(classes: &[Class], info: &Info) -> bool {
     })
 }
 
-fn taken(tally: &mut Tally, classes: &[Class], info: &Info, what: &dyn Fn() -> String) {
+fn taken(tally: &mut Tally, list: &List, info: &Info, what: &dyn Fn() -> String) {
     let read = read_info(tally, &info.bytes, 0, ROOM);
     assert_eq!(read, (Answer::success(ELEMENTS), info.rows.clone()), "{}", what());
-    assert!(offsets_hold(classes, info), "{}", what());
+    assert!(offsets_hold(list, info), "{}", what());
 }
 
 /// Every string by itself, of lengths around 255 and of great ones: none has a limit of its own.
@@ -50,14 +44,15 @@ fn taken(tally: &mut Tally, classes: &[Class], info: &Info, what: &dyn Fn() -> S
 fn every_string() {
     let mut tally = Tally::new("read_info, each string with a long form");
     let mut rng = Rng::new(720);
-    let mut short = all_kinds(&mut rng);
-    assert_eq!(short.iter_mut().flat_map(Class::strings_mut).count(), STRINGS);
+    let mut short = LIST_VERSIONS.map(|version| all_kinds(&mut rng, version)).into_iter().cycle();
     for len in [253, 254, 255, 256, 257, 1000, 32_767, 32_768, 65_535, 65_536, 70_000] {
         for nth in 0..STRINGS {
-            let mut classes = short.clone();
-            *classes.iter_mut().flat_map(Class::strings_mut).nth(nth).unwrap() = rng.bytes(len);
-            let info = build(&mut rng, 0, &classes, None);
-            taken(&mut tally, &classes, &info, &|| format!("string {nth} of {len} bytes"));
+            let mut list = short.next().unwrap();
+            let mut strings: Vec<&mut Vec<u8>> = list.strings_mut().collect();
+            assert_eq!(strings.len(), STRINGS);
+            *strings[nth] = rng.bytes(len);
+            let info = build(&mut rng, 0, &list, None);
+            taken(&mut tally, &list, &info, &|| format!("string {nth} of {len} bytes"));
         }
     }
     tally.finish(900, &[0]);
@@ -69,14 +64,14 @@ fn all_strings() {
     let mut tally = Tally::new("read_info, long strings everywhere");
     let mut rng = Rng::new(721);
     for (len, version) in [254, 255, 256, 1000].into_iter().flat_map(|len| [(len, 4), (len, 1004)]) {
-        let mut classes = all_kinds(&mut rng);
-        classes.iter_mut().flat_map(Class::strings_mut).for_each(|string| *string = rng.bytes(len));
+        let mut list = all_kinds(&mut rng, 5);
+        list.strings_mut().for_each(|string| *string = rng.bytes(len));
         let mut key = key(&mut rng, version, 0);
         key.strings[2] = rng.bytes(len);
-        let info = build_with(&mut rng, key, &classes, None);
+        let info = build_with(&mut rng, key, &list, None);
         let fixed = if version > 1000 { 34 } else { 26 };
         assert_eq!(info.keylen, fixed + 6 + 13 + if len < 255 { 1 } else { 5 } + len);
-        taken(&mut tally, &classes, &info, &|| format!("{len} bytes each"));
+        taken(&mut tally, &list, &info, &|| format!("{len} bytes each"));
         // Each bit of a length, in one form and in the other.
         for field in info.fields.iter().filter(|field| field.what == What::String) {
             for bit in 0..40 {
@@ -93,7 +88,7 @@ fn all_strings() {
 struct Twisted {
     tally: Tally,
     rng: Rng,
-    classes: Vec<Class>,
+    list: List,
     /// The strings of a record, and the names of its list and arrays.
     strings: Vec<usize>,
     names: Vec<usize>,
@@ -102,15 +97,15 @@ struct Twisted {
 impl Twisted {
     fn new(label: &'static str, seed: u64) -> Self {
         let mut rng = Rng::new(seed);
-        let classes = all_kinds(&mut rng);
-        let info = build(&mut rng, 0, &classes, None);
+        let list = all_kinds(&mut rng, 5);
+        let info = build(&mut rng, 0, &list, None);
         let those = |what: What| (0..info.fields.len()).filter(|&index| info.fields[index].what == what).collect();
         let [strings, names] = [What::String, What::NoName].map(those);
-        Twisted { tally: Tally::new(label), rng, classes, strings, names }
+        Twisted { tally: Tally::new(label), rng, list, strings, names }
     }
 
     fn record(&mut self, field: usize, bytes: &[u8]) -> Info {
-        build(&mut self.rng, 0, &self.classes, Some((field, bytes)))
+        build(&mut self.rng, 0, &self.list, Some((field, bytes)))
     }
 }
 

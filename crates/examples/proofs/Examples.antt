@@ -23,9 +23,11 @@ use Rattle.infofield.specs.Field.{textFieldAt, unnamedAt, zeroAt, objectAt}
 use Rattle.classname.specs.Find.{firstIn}
 use Rattle.classname.specs.Name.{classIn, classOf}
 use Rattle.infotag.specs.Tag.{classNameAt, newTag, oldTag, tagAt, headAt, headed}
-use Rattle.infoelement.specs.Element.{namedAt, withName, detailsAt, baseAt, withFields, counterAt, ownAt, memberAt}
-use Rattle.streamer.specs.Row.{flat, times, ends, elementAt}
-use Rattle.streamer.specs.Info.{collectionAt, sized, arrayBody, arrayAt, classBody, classAt, wholeAt, listAt, recordAt, infoAt}
+use Rattle.infoelement.specs.Element.{namedAt, withName, classBodyAt, detailsAt, baseAt, withFields, counterAt, ownAt, memberAt}
+use Rattle.infolist.specs.List.{collectionAt, withObjects, arrayBodyAt, wholeListAt, listOf, infoListAt, optionAt}
+use Rattle.inforow.specs.Row.{flat}
+use Rattle.streamer.specs.Row.{times, onward, elementAt}
+use Rattle.streamer.specs.Info.{arrayAt, classAt, listObjectAt, infoAt}
 use Rattle.streamer.specs.Info.{infoAnswer, infoTable}
 use Rattle.examples.specs.Worked.{examples}
 
@@ -37,6 +39,7 @@ unfolding eqBytes widthOf beValue numAt beBytes signedOf bitsOf prefixBytes pref
     gaps lastFits listGaps freeHolds infoHolds chain ruled verdict starts rowOf listedMark copyTurn copies dataTurn keysIn keysTurn
     dirTurn roundTurn nextRow rounds firstPart
     andThen fieldAt numbersAt endOf countAt counted versionedAt versioned endedAt textFieldAt unnamedAt zeroAt objectAt firstIn classIn
-    classOf classNameAt newTag oldTag tagAt headAt headed namedAt withName detailsAt baseAt withFields counterAt ownAt memberAt flat times ends
-    elementAt collectionAt sized arrayBody arrayAt classBody classAt wholeAt listAt recordAt infoAt infoAnswer infoTable
+    classOf classNameAt newTag oldTag tagAt headAt headed namedAt withName classBodyAt detailsAt baseAt withFields counterAt ownAt memberAt
+    collectionAt withObjects arrayBodyAt wholeListAt listOf infoListAt optionAt flat times onward elementAt arrayAt classAt listObjectAt
+    infoAt infoAnswer infoTable
 worked = refl

@@ -112,7 +112,7 @@ element kind name typename ftype count own =
     (beBytes 2 2 ++ tNamed name ++ beBytes 4 ftype ++ beBytes 4 8 ++ beBytes 4 count ++ replicate 24 0 ++ textBytes typename)
     ++ own))
 
--- an array of n elements, a class with its array, a list of n classes; each with its tag
+-- an array of n elements and a class with its array, each with its tag; a list of n objects, of this Version
 abbrev pub array : List ℕ → ℕ → List ℕ → List ℕ
 array tag n elements =
     object (tag ++ object (beBytes 2 3 ++ tObject ++ textBytes [] ++ beBytes 4 n ++ beBytes 4 0 ++ elements))
@@ -120,8 +120,8 @@ array tag n elements =
 abbrev pub class : List ℕ → List ℕ → List ℕ → List ℕ
 class tag name elements = object (tag ++ object (beBytes 2 2 ++ tNamed name ++ beBytes 4 123 ++ beBytes 4 4 ++ elements))
 
-abbrev pub list : ℕ → List ℕ → List ℕ
-list n classes = object (beBytes 2 3 ++ tObject ++ textBytes [] ++ beBytes 4 n ++ classes)
+abbrev pub list : ℕ → ℕ → List ℕ → List ℕ
+list version n objects = object (beBytes 2 version ++ tObject ++ textBytes [] ++ beBytes 4 n ++ objects)
 
 -- the StreamerInfo record at 0 of this Version with this list: 002 gives its title as "Doubly linked list"
 abbrev pub infoRecord : ℕ → List ℕ → List ℕ
@@ -133,10 +133,14 @@ infoRecord version x =
 abbrev pub twoClasses : ℕ → ℕ → List ℕ
 twoClasses version v =
     infoRecord version
-    (list 2
+    (list 3 2
     (class (newTag 0) (bytes "A") (array (newTag 1) 0 [])
     ++ class (reference v) (bytes "B")
     (array (reference (v + 55)) 1 (element 1 (bytes "x") (bytes "BASE") 0 0 (beBytes 4 7)))))
+
+-- one class without elements, and what stands after it in a list of this Version
+abbrev pub oneClass : ℕ → List ℕ → List ℕ
+oneClass version option = infoRecord 4 (list version 1 (class (newTag 0) (bytes "A") (array (newTag 1) 0 []) ++ option))
 
 -- fCountVersion, fCountName "n", fCountClass "A"
 abbrev pub counter : List ℕ
@@ -150,7 +154,7 @@ ofKind kind own = element kind ((96 + kind) ∷ []) ((64 + kind) ∷ []) kind (1
 abbrev pub tenKinds : List ℕ
 tenKinds =
     infoRecord 4
-    (list 1
+    (list 3 1
     (class (newTag 0) (bytes "A")
     (array (newTag 1) 10
     (ofKind 1 (beBytes 4 7) ++ ofKind 2 [] ++ ofKind 3 [] ++ ofKind 4 counter ++ ofKind 5 [] ++ ofKind 6 [] ++ ofKind 7 counter

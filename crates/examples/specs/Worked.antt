@@ -1,5 +1,5 @@
 -- Document 01, "Examples by hand", those marked * and one.root's 0, 7 and 9, and beside them the wide form (document 02, request 02),
--- a short string in the long form (request 04) and the ten kinds: one table of what the definitions give.
+-- a short string in the long form (request 04), options of lists (request 05) and the ten kinds: one table of what the definitions give.
 use Prim.Native.Nat.{ℕ}
 use mathlib.Core.Bool.{false}
 use mathlib.Core.List.{List, [], _∷_, _++_}
@@ -9,6 +9,7 @@ use Rattle.date.specs.Date.{packAnswer}
 use Rattle.wire.specs.Equal.{eqBytes}
 use Rattle.wire.specs.Number.{numAt}
 use Rattle.wire.specs.Quoted.{bytes}
+use Rattle.wire.specs.Text.{textBytes}
 use Rattle.wire.specs.declared.Answer.{Answer}
 use Rattle.date.specs.declared.Date.{Date}
 use Rattle.key.specs.Header.{sumOf, headerIn}
@@ -19,7 +20,7 @@ use Rattle.rules.specs.Free.{isGap}
 use Rattle.rules.specs.Order.{Verdict, verdict, numberOf, placeOf, countOf, startsOf, partsOf, ownersOf}
 use Rattle.rules.specs.Turn.{Turn, going, stop, copyTurn}
 use Rattle.streamer.specs.Info.{infoAnswer, infoTable}
-use Rattle.examples.specs.Records.{keyBytes, headKey, objectKey, oneRoot, wideRoot, longName, twoClasses, tenKinds}
+use Rattle.examples.specs.Records.{keyBytes, headKey, objectKey, oneRoot, wideRoot, longName, twoClasses, oneClass, tenKinds}
 
 -- the date of the first example, with a month
 abbrev pub theDate : ℕ → Date
@@ -128,6 +129,17 @@ examples =
     ++ says (verdict (set (wideRoot 433) 40 4) 5) 3 0 0
     -- nor is this, of request 04: a name of 254 bytes in the long form is 6
     ++ answers (pieceAnswer shortInLong 0) 6 0 0
+    -- nor are these, of request 05. Below Version 4 no option stands after an object, from 4 on one after the last too
+    ++ answers (infoAnswer (oneClass 3 []) 0 0) 0 0 0
+    ++ answers (infoAnswer (oneClass 3 (0 ∷ [])) 0 0) 21 183 0
+    ++ answers (infoAnswer (oneClass 4 []) 0 0) 21 183 0
+    ++ answers (infoAnswer (oneClass 4 (0 ∷ [])) 0 0) 0 0 0
+    -- in Version 4 the byte 255 is a plain length, from 5 on it opens the long form
+    ++ answers (infoAnswer (oneClass 4 (replicate 256 255)) 0 0) 0 0 0
+    ++ answers (infoAnswer (oneClass 5 (replicate 256 255)) 0 0) 21 183 0
+    ++ answers (infoAnswer (oneClass 4 (textBytes (replicate 255 0))) 0 0) 21 439 0
+    ++ answers (infoAnswer (oneClass 5 (textBytes (replicate 255 0))) 0 0) 0 0 0
+    ++ answers (infoAnswer (oneClass 65535 (textBytes (replicate 255 0))) 0 0) 0 0 0
     -- nor is this: each of the ten kinds, and its row
     ++ answers (infoAnswer tenKinds 0 60) 0 0 10
     ++ yes

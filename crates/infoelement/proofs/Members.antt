@@ -4,8 +4,11 @@ use mathlib.Core.List.{List}
 use mathlib.Core.Path.{_≡_, refl, sym, _∙_}
 use native.Mathlib.Omega.{arith}
 use Rattle.infofield.specs.Field.{numbersAt, versionedAt, endedAt, textFieldAt, objectAt}
-use Rattle.infofield.proofs.Steps.{each-step, each-opened, from-versioned, text-below}
-use Rattle.infoelement.specs.Element.{namedAt, withName, detailsAt, baseAt, withFields, ownAt, memberAt, movedTo}
+use Rattle.infofield.specs.declared.field.Body.{Body}
+use Rattle.infofield.specs.declared.field.Opened.{Opened}
+use Rattle.infofield.specs.declared.field.Opened.the-variants as opened
+use Rattle.infofield.proofs.Steps.{ClosesBy, each-step, each-opened, from-versioned, text-below}
+use Rattle.infoelement.specs.Element.{namedAt, withName, classBodyAt, detailsAt, baseAt, withFields, ownAt, memberAt, movedTo}
 use Rattle.infoelement.specs.declared.element.Name.{Name}
 use Rattle.infoelement.specs.declared.element.Named.{Named}
 use Rattle.infoelement.specs.declared.element.Named.the-variants as named
@@ -102,6 +105,17 @@ all-below s kind p e =
 pub member-below : (s : List ℕ) (kind p e : ℕ) {y : Member} {m : Fields} → y ≡ memberAt s kind p e → y ≡ Held m
     → (m .name ≤ e) × (m .typename ≤ e)
 member-below s kind p e d g = rw (sym d ∙ g) at (all-below s kind p e)
+
+-- the end of a class is at or before the innermost open end
+class-closes : (s : List ℕ) (p e : ℕ) → ClosesBy e (classBodyAt s p e)
+unfolding classBodyAt
+class-closes s p e =
+    each-opened _ _ (ClosesBy e) (λ c r. tt) (versionedAt s p e) (λ b i.
+    each-name _ _ (ClosesBy e) (λ c r. tt) (namedAt s (b .from) (b .close)) (λ n j.
+    each-step _ _ (ClosesBy e) (λ c r. tt) (numbersAt 2 (n .next) (b .close)) (λ a k. from-versioned s p e refl i)))
+
+pub from-class : (s : List ℕ) (p e : ℕ) {y : Opened} {b : Body} → y ≡ classBodyAt s p e → y ≡ opened.Held b → b .close ≤ e
+from-class s p e d g = rw (sym d ∙ g) at (class-closes s p e)
 
 -- the same element by its kind
 pub as-kind : (s : List ℕ) (j k p e : ℕ) {y : Member} → y ≡ memberAt s j p e → j ≡ k → y ≡ memberAt s k p e

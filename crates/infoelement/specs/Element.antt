@@ -1,4 +1,4 @@
--- TNamed, TStreamerElement and the ten classes over it: document 002, object by object.
+-- TNamed, TStreamerInfo up to its array, TStreamerElement and the ten classes over it: document 002, object by object.
 use Prim.Native.Nat.{ℕ}
 use mathlib.Core.List.{List}
 use lib.Dec.{eqb}
@@ -7,6 +7,8 @@ use Rattle.wire.specs.Number.{numAt}
 use Rattle.infofield.specs.Field.{andThen, numbersAt, versionedAt, versioned, endedAt, textFieldAt, objectAt}
 use Rattle.infofield.specs.declared.field.Step.{Step}
 use Rattle.infofield.specs.declared.field.Step.the-variants as step
+use Rattle.infofield.specs.declared.field.Opened.{Opened}
+use Rattle.infofield.specs.declared.field.Opened.the-variants as opened
 use Rattle.infoelement.specs.declared.element.Name.{Name}
 use Rattle.infoelement.specs.declared.element.Named.{Named}
 use Rattle.infoelement.specs.declared.element.Named.the-variants as named
@@ -26,6 +28,13 @@ namedAt s p e =
 unfoldable pub withName : {A : Type 0} → (ℕ → ℕ → A) → Named → (Name → A) → A
 withName w (named.Held n) f = f n
 withName w (named.Wrong c p) f = w c p
+
+-- TStreamerInfo after its tag, up to its array: ByteCount, Version (2), TNamed, fCheckSum, fClassVersion
+unfoldable pub classBodyAt : List ℕ → ℕ → ℕ → Opened
+classBodyAt s p e =
+    versioned opened.Wrong (versionedAt s p e) (λ b.
+    withName opened.Wrong (namedAt s (b .from) (b .close)) (λ n.
+    andThen opened.Wrong (numbersAt 2 (n .next) (b .close)) (λ a. opened.Held (record { from = a; close = b .close }))))
 
 -- TStreamerElement: ByteCount, Version (2), TNamed, fType, fSize, fArrayLength, fArrayDim, fMaxIndex (five), fTypeName
 unfoldable pub detailsAt : List ℕ → Name → ℕ → Member

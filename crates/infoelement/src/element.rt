@@ -1,7 +1,8 @@
-// TNamed, TStreamerElement and the classes over it (document 002).
+// TNamed, a TStreamerInfo up to its array, TStreamerElement and the classes over it (document 002).
 ghost use mathlib.Core.Path.{_≡_};
 ghost use Rattle.wire.specs.Lent.{before};
-ghost use Rattle.infoelement.specs.Element.{namedAt, detailsAt, baseAt, counterAt, ownAt, memberAt};
+ghost use Rattle.infoelement.specs.Element.{namedAt, classBodyAt, detailsAt, baseAt, counterAt, ownAt, memberAt};
+use infofield::field::Body;
 use infofield::field::Opened;
 use infofield::field::Step;
 use infofield::field::ended;
@@ -39,7 +40,7 @@ pub enum Member {
 }
 
 // A TNamed.
-pub fn read_named(file: &[u8], at: usize, end: usize) -> Named
+fn read_named(file: &[u8], at: usize, end: usize) -> Named
     ensures { λ r. ⌜ r ≡ namedAt (before file) at end ⌝ }
 {
     let body = match versioned(file, at, end) {
@@ -70,6 +71,29 @@ pub fn read_named(file: &[u8], at: usize, end: usize) -> Named
     match ended(stop, close) {
         Step::Next(next) => Named::Held(Name { at: name, next }),
         Step::Wrong(number, place) => Named::Wrong(number, place),
+    }
+}
+
+// A TStreamerInfo after its tag, up to its array: where that starts, and the end of the object.
+pub fn read_class(file: &[u8], at: usize, end: usize) -> Opened
+    ensures { λ r. ⌜ r ≡ classBodyAt (before file) at end ⌝ }
+{
+    let body = match versioned(file, at, end) {
+        Opened::Held(body) => body,
+        Opened::Wrong(number, place) => {
+            return Opened::Wrong(number, place);
+        }
+    };
+    let close = body.close;
+    let name = match read_named(file, body.from, close) {
+        Named::Held(name) => name,
+        Named::Wrong(number, place) => {
+            return Opened::Wrong(number, place);
+        }
+    };
+    match numbers(2, name.next, close) {
+        Step::Next(from) => Opened::Held(Body { from, close }),
+        Step::Wrong(number, place) => Opened::Wrong(number, place),
     }
 }
 

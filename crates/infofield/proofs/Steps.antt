@@ -153,7 +153,7 @@ each-opened w f P h (opened.Held b) g = g b refl
 each-opened w f P h (opened.Wrong c p) g = h c p
 
 -- its end is at or before the innermost open end
-abbrev ClosesBy : ℕ → Opened → Type 0
+abbrev pub ClosesBy : ℕ → Opened → Type 0
 ClosesBy e (opened.Held b) = b .close ≤ e
 ClosesBy e (opened.Wrong c p) = Unit
 

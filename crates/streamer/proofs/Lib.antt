@@ -1,4 +1,2 @@
-pub mod Tables
 pub mod Runs
 pub mod Looks
-pub mod Records

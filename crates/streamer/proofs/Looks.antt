@@ -7,14 +7,9 @@ use lib.ListN.{length, set}
 use Rattle.wire.specs.Lent.{Lent, before, after}
 use Rattle.wire.specs.declared.Answer.{Answer}
 use Rattle.wire.proofs.Checks.{picked}
-use Rattle.key.specs.Piece.{pieceAt}
-use Rattle.key.specs.declared.piece.Piece.{Piece}
-use Rattle.key.specs.declared.piece.Piece.the-variants.{Record, Gap, Refused}
-use Rattle.infofield.specs.Field.{andThen, endedAt, counted, versioned}
+use Rattle.infofield.specs.Field.{andThen, versioned}
 use Rattle.infofield.specs.declared.field.Step.{Step}
 use Rattle.infofield.specs.declared.field.Step.the-variants as step
-use Rattle.infofield.specs.declared.field.Count.{Count}
-use Rattle.infofield.specs.declared.field.Count.the-variants as count
 use Rattle.infofield.specs.declared.field.Body.{Body}
 use Rattle.infofield.specs.declared.field.Opened.{Opened}
 use Rattle.infofield.specs.declared.field.Opened.the-variants as opened
@@ -24,21 +19,19 @@ use Rattle.infotag.specs.declared.tag.Start.{Start}
 use Rattle.infotag.specs.declared.tag.Head.{Head}
 use Rattle.infotag.specs.declared.tag.Head.the-variants as head
 use Rattle.infotag.proofs.Stands.{TagsStand, none-stand, Kept, head-kept}
-use Rattle.infoelement.specs.Element.{withName, withFields}
-use Rattle.infoelement.specs.declared.element.Name.{Name}
-use Rattle.infoelement.specs.declared.element.Named.{Named}
-use Rattle.infoelement.specs.declared.element.Named.the-variants as named
+use Rattle.infoelement.specs.Element.{withFields}
 use Rattle.infoelement.specs.declared.element.Fields.{Fields}
 use Rattle.infoelement.specs.declared.element.Member.{Member}
 use Rattle.infoelement.specs.declared.element.Member.the-variants as member
-use Rattle.streamer.specs.Row.{Run, going, stop, onto, goOn, times, ends, elementAt}
-use Rattle.streamer.specs.Info.{sized, arrayBody, arrayAt, classBody, classAt, ownerOf, listAt, recordAt, onPiece, infoAt}
+use Rattle.infolist.specs.List.{withObjects, infoListAt}
+use Rattle.infolist.specs.declared.list.Objects.{Objects}
+use Rattle.infolist.specs.declared.list.Collection.{Collection}
+use Rattle.infolist.specs.declared.list.Collection.the-variants as collection
+use Rattle.inforow.specs.declared.Row.{Row}
+use Rattle.streamer.specs.Row.{Run, going, stop, onto, goOn, times, onward, elementAt}
+use Rattle.streamer.specs.Info.{arrayAt, classAt, listObjectAt, ownerOf, infoAt}
 use Rattle.streamer.specs.Info.{infoAnswer, infoTable, Informs}
-use Rattle.streamer.specs.declared.row.Row.{Row}
 use Rattle.streamer.specs.declared.row.Owner.{Owner}
-use Rattle.streamer.specs.declared.info.Size.{Size}
-use Rattle.streamer.specs.declared.info.Collection.{Collection}
-use Rattle.streamer.specs.declared.info.Collection.the-variants as collection
 
 -- the tags that a run has seen stand in the record at rec
 abbrev Standing : List ℕ → ℕ → Run → Type 0
@@ -63,26 +56,16 @@ module _ {s : List ℕ} {rec : ℕ} where
   on-step (step.Next q) h = h q
   on-step (step.Wrong c p) h = stops c p
 
-  on-count : (x : Count) (p : ℕ) {f g : ℕ → ℕ → Run} → ((q e : ℕ) → Agree s rec (f q e) (g q e))
-      → Agree s rec (counted stop x p f) (counted stop x p g)
-  unfolding counted
-  on-count (count.Open q e) p h = h q e
-  on-count count.Bad p h = stops 21 p
-
   on-opened : (x : Opened) {f g : Body → Run} → ((b : Body) → Agree s rec (f b) (g b)) → Agree s rec (versioned stop x f) (versioned stop x g)
   unfolding versioned
   on-opened (opened.Held b) h = h b
   on-opened (opened.Wrong c p) h = stops c p
 
-  on-sized : (x : Collection) {f g : Size → Run} → ((n : Size) → Agree s rec (f n) (g n)) → Agree s rec (sized stop x f) (sized stop x g)
-  unfolding sized
-  on-sized (collection.Held n) h = h n
-  on-sized (collection.Wrong c p) h = stops c p
-
-  on-name : (x : Named) {f g : Name → Run} → ((n : Name) → Agree s rec (f n) (g n)) → Agree s rec (withName stop x f) (withName stop x g)
-  unfolding withName
-  on-name (named.Held n) h = h n
-  on-name (named.Wrong c p) h = stops c p
+  on-objects : (x : Collection) {f g : Objects → Run} → ((n : Objects) → Agree s rec (f n) (g n))
+      → Agree s rec (withObjects stop x f) (withObjects stop x g)
+  unfolding withObjects
+  on-objects (collection.Held n) h = h n
+  on-objects (collection.Wrong c p) h = stops c p
 
   on-fields : (x : Member) {f g : Fields → Run} → ((m : Fields) → Agree s rec (f m) (g m)) → Agree s rec (withFields stop x f) (withFields stop x g)
   unfolding withFields
@@ -97,13 +80,13 @@ module _ {s : List ℕ} {rec : ℕ} where
   on-looked ts p (head.Known h) k e = rw (picked (tagStands s (newTagOf s rec (p + 4)) (h .class)) _ _ (k .0)) (e h (k .1))
   on-looked ts p (head.Wrong c q) k e = stops c q
 
-  -- ends, and objects one after the other
-  on-end : (e : ℕ) (x : Run) {y : Run} → Agree s rec x y → Agree s rec (ends x e) (ends y e)
-  unfolding ends
-  on-end e x h = rw (← (h .same)) (go x (h .stand))
+  -- the same step after each, and objects one after the other
+  on-onward : (f : ℕ → Step) (x : Run) {y : Run} → Agree s rec x y → Agree s rec (onward x f) (onward y f)
+  unfolding onward
+  on-onward f x h = rw (← (h .same)) (go x (h .stand))
     where
-      go : (x : Run) → Standing s rec x → Agree s rec (ends x e) (ends x e)
-      go (going ts rs p) t = on-step (endedAt p e) (λ q. goes ts rs q t)
+      go : (x : Run) → Standing s rec x → Agree s rec (onward x f) (onward x f)
+      go (going ts rs p) t = on-step (f p) (λ q. goes ts rs q t)
       go (stop c p) t = stops c p
 
   on-more : (f g : List ℕ → ℕ → Run) → ((ts : List ℕ) (p : ℕ) → TagsStand s rec ts → Agree s rec (f ts p) (g ts p)) → (x : Run) {y : Run}
@@ -137,49 +120,29 @@ module _ (s : List ℕ) (o : Owner) where
       on-fields _ (λ m.
       on-step _ (λ d. goes _ _ d u)))
 
-  array-body-both : (e : ℕ) → Both (arrayBody once s o e) (arrayBody (twice (o .rec)) s o e)
-  unfolding arrayBody
-  array-body-both e ts p t =
-      on-count _ p (λ q f.
-      on-sized _ (λ n.
-      on-step _ (λ a.
-      on-end f _ (on-times _ _ (λ k. element-both f) ts a (n .count) t))))
-
   array-both : (e : ℕ) → Both (arrayAt once s o e) (arrayAt (twice (o .rec)) s o e)
   unfolding arrayAt
   array-both e ts p t =
       on-looked ts p _ (head-kept s (o .rec) p e 1 1 ts (omega arith) t) (λ h u.
-      on-end (h .close) _ (array-body-both (h .close) _ (h .next) u))
-
-  class-body-both : (e : ℕ) → Both (classBody once s o e) (classBody (twice (o .rec)) s o e)
-  unfolding classBody
-  class-body-both e ts p t =
-      on-opened _ (λ b.
-      on-name _ (λ n.
-      on-step _ (λ a.
-      on-end (b .close) _ (array-both (b .close) ts a t))))
+      on-objects _ (λ n.
+      on-onward _ _ (on-onward _ _ (on-times _ _ (λ k. element-both (n .end)) _ (n .from) (n .count) u))))
 
   class-both : (e : ℕ) → Both (classAt once s o e) (classAt (twice (o .rec)) s o e)
   unfolding classAt
   class-both e ts p t =
       on-looked ts p _ (head-kept s (o .rec) p e 0 0 ts (omega arith) t) (λ h u.
-      on-end (h .close) _ (class-body-both (h .close) _ (h .next) u))
+      on-opened _ (λ b.
+      on-onward _ _ (on-onward _ _ (array-both (b .close) _ (b .from) u))))
 
-list-both : (s : List ℕ) (rec p e : ℕ) → Agree s rec (listAt once s rec p e) (listAt (twice rec) s rec p e)
-unfolding listAt
-list-both s rec p e =
-    on-count _ p (λ q f.
-    on-sized _ (λ n.
-    on-end f _ (on-times _ _ (λ k. class-both s (ownerOf rec k) f) _ (n .next) (n .count) (none-stand s rec 12))))
+list-object-both : (s : List ℕ) (rec : ℕ) (n : Objects) (i : ℕ) → Both s (ownerOf rec i) (listObjectAt once s rec n i) (listObjectAt (twice rec) s rec n i)
+unfolding listObjectAt
+list-object-both s rec n i ts p t = on-onward _ _ (class-both s (ownerOf rec i) (n .end) ts p t)
 
 pub looks : (s : List ℕ) (p : ℕ) → infoAt once s p ≡ infoAt (twice p) s p
-unfolding infoAt recordAt
-looks s p = go (pieceAt s p)
-  where
-    go : (x : Piece) → onPiece once s p x ≡ onPiece (twice p) s p x
-    go (Record k) = rw (list-both s p (p + k .keylen) (p + k .nbytes) .same)
-    go (Gap n) = refl
-    go (Refused c q) = refl
+unfolding infoAt
+looks s p =
+    on-objects {rec = p} (infoListAt s p) (λ n.
+    on-onward _ _ (on-times _ _ (list-object-both s p n) _ (n .from) (n .count) (none-stand s p 12))) .same
 
 pub informs : {file table : Lent} {at : ℕ} {r : Answer} → (r ≡ infoAnswer (before file) at (length (before table)))
     × (after table ≡ infoTable (before file) at (length (before table))) → Informs file at table r

@@ -6,24 +6,23 @@ use native.Mathlib.Nat.{add-zero, zero-add, suc-add}
 use native.Mathlib.Numerals.{add-one}
 use native.Mathlib.Omega.{arith}
 use borrow.Author.Tests.{le-leb, lt-leb}
-use mathlib.Core.Bool.{Bool, true, false}
 use lib.ListN.{length, length-append}
-use lib.Dec.{eqb}
 use Rattle.wire.specs.Answer.{done, refusal}
-use Rattle.wire.specs.Check.{pick}
 use Rattle.wire.specs.declared.Answer.{Answer}
 use Rattle.table.specs.Table.{filled}
-use Rattle.infofield.specs.Field.{andThen, endedAt}
+use Rattle.infofield.specs.Field.{andThen}
+use Rattle.infofield.specs.declared.field.Step.{Step}
 use Rattle.infofield.specs.declared.field.Step.the-variants as step
+use Rattle.inforow.specs.Row.{flat, putRow, putRows}
+use Rattle.inforow.specs.declared.Row.{Row}
+use Rattle.inforow.proofs.Tables.{more-rows, all-rows}
 use Rattle.streamer.specs.Info.{tooMany, answered, shown}
 use Rattle.infoelement.specs.declared.element.Fields.{Fields}
-use Rattle.streamer.specs.Row.{flat, rowOf, Run, going, stop, onto, goOn, times, ends}
-use Rattle.streamer.specs.Runs.{putRow, putRows, Ran, Grown, Ended, closedRows}
-use Rattle.streamer.specs.declared.row.Row.{Row}
+use Rattle.streamer.specs.Row.{rowOf, Run, going, stop, onto, goOn, times, onward}
+use Rattle.streamer.specs.Runs.{Ran, Grown, Ended, stepped}
 use Rattle.streamer.specs.declared.row.Owner.{Owner}
 use Rattle.streamer.specs.declared.row.Rows.{Rows}
 use Rattle.streamer.specs.declared.row.Rows.the-variants.{Next, Wrong}
-use Rattle.streamer.proofs.Tables.{more-rows, all-rows}
 
 pub ran-stop : {run : Run} {c p : ℕ} (t : List ℕ) (n : ℕ) (us u : List ℕ) → stop c p ≡ run → Ran run t n (Wrong c p) us u
 unfolding Ran
@@ -39,10 +38,6 @@ pub as-run : {run run′ : Run} (t : List ℕ) (n : ℕ) (a : Rows) (us u : List
 as-run t n a us u e h = rw e at h
 
 -- rows grown
-pub not-grown : (n k c p : ℕ) → Grown n k (Wrong c p)
-unfolding Grown
-not-grown n k c p = tt
-
 pub is-grown : (n k q m : ℕ) → m ≤ n + k → Grown n k (Next q m)
 unfolding Grown
 is-grown n k q m h = h
@@ -64,37 +59,53 @@ one-row t n {u} e h k = ran-going t n (n + 1) u e refl (k ∙ ap (putRow t n) h)
 pub row-kind : (o : Owner) (m : Fields) {r : Row} {j k : ℕ} → r ≡ rowOf o j m → j ≡ k → r ≡ rowOf o k m
 row-kind o m e g = rw g at e
 
--- an object's end
-pub closed-next : (a : Rows) (e : ℕ) {q m : ℕ} {b : Rows} → a ≡ Next q m → b ≡ andThen Wrong (endedAt q e) (λ r. Next r m) → b ≡ closedRows a e
-closed-next a e g h = rw g h
+-- a step after what was read
+pub stepped-next : (a : Rows) (f : ℕ → Step) {q m : ℕ} {b : Rows} → a ≡ Next q m → b ≡ andThen Wrong (f q) (λ r. Next r m) → b ≡ stepped a f
+stepped-next a f g h = rw g h
 
-next-ends : (ts : List ℕ) (rs : List Row) (t : List ℕ) (n p q m e : ℕ) (us u : List ℕ) → (q ≡ p) × (m ≡ n + length rs) × (us ≡ ts) × (u ≡ putRows t n rs)
-    → Ran (ends (going ts rs p) e) t n (closedRows (Next q m) e) us u
-unfolding Ran ends andThen endedAt
-next-ends ts rs t n p q m e us u h = go (eqb p e) refl
+pub stepped-wrong : (a : Rows) (f : ℕ → Step) {c p : ℕ} → a ≡ Wrong c p → a ≡ stepped a f
+stepped-wrong a f g = rw g
+
+next-onward : (ts : List ℕ) (rs : List Row) (t : List ℕ) (n p q m : ℕ) (f : ℕ → Step) (us u : List ℕ)
+    → (q ≡ p) × (m ≡ n + length rs) × (us ≡ ts) × (u ≡ putRows t n rs) → Ran (onward (going ts rs p) f) t n (stepped (Next q m) f) us u
+unfolding Ran onward andThen
+next-onward ts rs t n p q m f us u h = go (f p) refl
   where
-    go : (b : Bool) → eqb p e ≡ b → Ran (ends (going ts rs p) e) t n (closedRows (Next q m) e) us u
-    go true g = rw (h .0, g) (refl, h .1, h .2, h .3)
-    go false g = rw (h .0, g) (refl, refl)
+    go : (x : Step) → f p ≡ x → Ran (onward (going ts rs p) f) t n (stepped (Next q m) f) us u
+    go (step.Next r) g = rw (h .0, g) (refl, h .1, h .2, h .3)
+    go (step.Wrong c r) g = rw (h .0, g) (refl, refl)
 
-pub ran-ends : (run : Run) (t : List ℕ) (n e : ℕ) (a b : Rows) (us u : List ℕ) → Ran run t n a us u → b ≡ closedRows a e → Ran (ends run e) t n b us u
-unfolding Ran ends
-ran-ends (going ts rs p) t n e (Next q m) b us u h g = rw g (next-ends ts rs t n p q m e us u h)
-ran-ends (going ts rs p) t n e (Wrong d q) b us u h g = absurd h
-ran-ends (stop c p) t n e (Next q m) b us u h g = absurd h
-ran-ends (stop c p) t n e (Wrong d q) b us u h g = rw g h
+pub ran-onward : (run : Run) (t : List ℕ) (n : ℕ) (f : ℕ → Step) (a b : Rows) (us u : List ℕ) → Ran run t n a us u → b ≡ stepped a f
+    → Ran (onward run f) t n b us u
+unfolding Ran onward
+ran-onward (going ts rs p) t n f (Next q m) b us u h g = rw g (next-onward ts rs t n p q m f us u h)
+ran-onward (going ts rs p) t n f (Wrong d q) b us u h g = absurd h
+ran-onward (stop c p) t n f (Next q m) b us u h g = absurd h
+ran-onward (stop c p) t n f (Wrong d q) b us u h g = rw g h
 
-closed-grown : (n k e : ℕ) (a : Rows) → Grown n k a → Grown n k (closedRows a e)
-unfolding Grown andThen endedAt
-closed-grown n k e (Next q m) h = go (eqb q e)
+stepped-grown : (n k : ℕ) (f : ℕ → Step) (a : Rows) → Grown n k a → Grown n k (stepped a f)
+unfolding Grown andThen
+stepped-grown n k f (Next q m) h = go (f q)
   where
-    go : (b : Bool) → Grown n k (andThen Wrong (pick b (step.Next q) (step.Wrong 21 q)) (λ r. Next r m))
-    go true = h
-    go false = tt
-closed-grown n k e (Wrong c p) h = tt
+    go : (x : Step) → Grown n k (andThen Wrong x (λ r. Next r m))
+    go (step.Next r) = h
+    go (step.Wrong c p) = tt
+stepped-grown n k f (Wrong c p) h = tt
 
-pub grown-ends : (n k e : ℕ) (a b : Rows) → Grown n k a → b ≡ closedRows a e → Grown n k b
-grown-ends n k e a b h g = rw g (closed-grown n k e a h)
+-- a run of at most k rows: one that stopped, one by another name, and a step after it
+module _ (t : List ℕ) (n k : ℕ) (us u : List ℕ) where
+  abbrev Grows : Run → Rows → Type 0
+  Grows run a = Ran run t n a us u × Grown n k a
+
+  pub run-stop : {run : Run} {c p : ℕ} → stop c p ≡ run → Grows run (Wrong c p)
+  unfolding Grown
+  run-stop e = (ran-stop t n us u e, tt)
+
+  pub run-as : {run run′ : Run} (a : Rows) → run ≡ run′ → Grows run a → Grows run′ a
+  run-as a e h = (as-run t n a us u e (h .0), h .1)
+
+  pub run-onward : (run : Run) (f : ℕ → Step) (a b : Rows) → Grows run a → b ≡ stepped a f → Grows (onward run f) b
+  run-onward run f a b h g = (ran-onward run t n f a b us u (h .0) g, rw g (stepped-grown n k f a (h .1)))
 
 -- objects one after the other: after k of them from p with the tags ts, the place q, the tags us, m rows and the table u
 pub record Reading (f : ℕ → List ℕ → ℕ → Run) (ts : List ℕ) (p : ℕ) (t : List ℕ) (n k : ℕ) (us : List ℕ) (q : ℕ) (u : List ℕ) (m : ℕ)
@@ -161,9 +172,6 @@ ended-stop t u e = ([], ran-stop t 0 [] u e)
 pub ended-of : (run : Run) (t : List ℕ) (a : Rows) (us u : List ℕ) → Ran run t 0 a us u → Ended run t a u
 unfolding Ended
 ended-of run t a us u h = (us, h)
-
-pub as-ended : {run run′ : Run} (t : List ℕ) (a : Rows) (u : List ℕ) → run ≡ run′ → Ended run t a u → Ended run′ t a u
-as-ended t a u e h = rw e at h
 
 -- the answer and the table of a run: rows, too many rows, a fault
 module _ (n : ℕ) where

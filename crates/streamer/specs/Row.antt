@@ -1,23 +1,15 @@
--- The rows of the table: document 01, "Six numbers a row in one lent 32-bit table".
+-- Elements and their rows: document 002, "TStreamer<XXX>"; document 01, "StreamerInfo (002)".
 use Prim.Native.Nat.{ℕ, zero, suc, _-_}
 use mathlib.Core.List.{List, [], _∷_, _++_}
 use lib.ListN.{set}
 use Rattle.infofield.specs.Field.{andThen, endedAt}
+use Rattle.infofield.specs.declared.field.Step.{Step}
 use Rattle.infotag.specs.Stand.{Look, headBy}
 use Rattle.infotag.specs.Tag.{headed}
 use Rattle.infoelement.specs.Element.{memberAt, withFields}
 use Rattle.infoelement.specs.declared.element.Fields.{Fields}
-use Rattle.streamer.specs.declared.row.Row.{Row}
+use Rattle.inforow.specs.declared.Row.{Row}
 use Rattle.streamer.specs.declared.row.Owner.{Owner}
-
--- class index, kind, offsets in the record of the first length byte of the name and of the type name, fType, fArrayLength
-abbrev pub six : Row → List ℕ
-six r = r .class ∷ r .kind ∷ r .name ∷ r .typename ∷ r .ftype ∷ r .length ∷ []
-
--- rows one after the other
-unfoldable pub flat : List Row → List ℕ
-flat [] = []
-flat (r ∷ rs) = six r ++ flat rs
 
 -- what reading gives: the tags seen, the rows and the next place; or the number and the place of the first fault
 pub data Run : Type 0 where
@@ -38,10 +30,14 @@ unfoldable pub times : (ℕ → List ℕ → ℕ → Run) → List ℕ → ℕ �
 times f ts p zero = going ts [] p
 times f ts p (suc k) = goOn (f k) (times f ts p k)
 
+-- a step f from the place after a run; it has no row and no tag
+unfoldable pub onward : Run → (ℕ → Step) → Run
+onward (going ts rs p) f = andThen stop (f p) (λ q. going ts rs q)
+onward (stop c p) f = stop c p
+
 -- the object ends at e, where its content stops
-unfoldable pub ends : Run → ℕ → Run
-ends (going ts rs p) e = andThen stop (endedAt p e) (λ q. going ts rs q)
-ends (stop c p) e = stop c p
+abbrev pub ends : Run → ℕ → Run
+ends r e = onward r (λ p. endedAt p e)
 
 -- the row of an element
 abbrev pub rowOf : Owner → ℕ → Fields → Row

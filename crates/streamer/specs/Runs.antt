@@ -1,32 +1,19 @@
 -- Runs as private functions promise them: only they and proofs use what stands here.
-use Prim.Native.Nat.{ℕ, suc, _+_, _*_, _<_, _≤_}
-use mathlib.Core.List.{List, [], _∷_}
+use Prim.Native.Nat.{ℕ, _+_, _<_, _≤_}
+use mathlib.Core.List.{List}
 use mathlib.Core.Path.{_≡_}
 use lib.ListN.{length}
-use lib.Dec.{leb}
-use Rattle.wire.specs.Check.{pick}
 use Rattle.wire.specs.Lent.{Lent, before, after}
-use Rattle.wire.specs.Patch.{patch}
-use Rattle.key.specs.declared.piece.Piece.{Piece}
-use Rattle.key.specs.declared.piece.Piece.the-variants.{Record, Gap, Refused}
 use Rattle.infofield.specs.Field.{andThen, endedAt}
-use Rattle.streamer.specs.Row.{six, Run, going, stop}
-use Rattle.streamer.specs.declared.row.Row.{Row}
+use Rattle.infofield.specs.declared.field.Step.{Step}
+use Rattle.inforow.specs.Row.{putRows}
+use Rattle.streamer.specs.Row.{Run, going, stop}
 use Rattle.streamer.specs.declared.row.Rows.{Rows}
 use Rattle.streamer.specs.declared.row.Rows.the-variants.{Next, Wrong}
 
 -- the end of an object is near the record's start, and n rows can grow by k
 abbrev pub Within : ℕ → ℕ → ℕ → ℕ → Type 0
 Within rec e n k = (e ≤ rec + 2147483647) × (n + k < 18446744073709551616)
-
--- the table t with row n written; "only whole rows count as room"
-unfoldable pub putRow : List ℕ → ℕ → Row → List ℕ
-putRow t n r = pick (leb (n * 6 + 6) (length t)) (patch t (n * 6) (six r)) t
-
--- with rows written from row n on
-unfoldable pub putRows : List ℕ → ℕ → List Row → List ℕ
-putRows t n [] = t
-putRows t n (r ∷ rs) = putRows (putRow t n r) (suc n) rs
 
 -- an answer, the tags and the table at exit are those of a run that had n rows in the table t; a fault leaves both free
 unfoldable pub Ran : Run → List ℕ → ℕ → Rows → List ℕ → List ℕ → Type 0
@@ -48,13 +35,11 @@ Runs run tags table n k r = Ran run (before table) n r (after tags) (after table
 unfoldable pub Ended : Run → List ℕ → Rows → List ℕ → Type 0
 Ended run t r u = (us : List ℕ) × Ran run t 0 r us u
 
+-- an answer, and a step f from its place
+abbrev pub stepped : Rows → (ℕ → Step) → Rows
+stepped (Next q m) f = andThen Wrong (f q) (λ r. Next r m)
+stepped (Wrong c p) f = Wrong c p
+
 -- an answer, where the object's content stops at its end
 abbrev pub closedRows : Rows → ℕ → Rows
-closedRows (Next q m) e = andThen Wrong (endedAt q e) (λ r. Next r m)
-closedRows (Wrong c p) e = Wrong c p
-
--- the answer where no record is
-abbrev pub noRecord : Piece → ℕ → Rows
-noRecord (Record k) p = Wrong 20 p
-noRecord (Gap n) p = Wrong 20 p
-noRecord (Refused c q) p = Wrong c q
+closedRows r e = stepped r (λ p. endedAt p e)

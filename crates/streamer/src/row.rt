@@ -1,30 +1,20 @@
-// The rows of the table: six numbers for every element.
+// The elements of a class, and the row of each.
 ghost use mathlib.Core.Path.{_≡_};
 ghost use Prim.Native.Nat.{_+_, _≤_};
-ghost use lib.ListN.{length};
-ghost use Rattle.wire.specs.Lent.{before, after};
+ghost use Rattle.wire.specs.Lent.{before};
 ghost use Rattle.infotag.specs.Stand.{once};
-ghost use Rattle.wire.specs.Patch.{patch};
-ghost use Rattle.streamer.specs.Row.{six, rowOf, elementAt};
-ghost use Rattle.streamer.specs.Runs.{putRow, Within, Runs};
+ghost use Rattle.streamer.specs.Row.{rowOf, elementAt};
+ghost use Rattle.streamer.specs.Runs.{Within, Runs};
 use infoelement::element::Fields;
 use infoelement::element::Member;
 use infoelement::element::read_member;
 use infofield::field::Step;
 use infofield::field::ended;
 use infofield::field::offset;
+use inforow::Row;
+use inforow::put_row;
 use infotag::tag::Head;
 use infotag::tag::read_head;
-
-// A row: class index, kind, offsets of the first length byte of the name and of the type name, fType and fArrayLength.
-pub struct Row {
-    pub class: u32,
-    pub kind: u32,
-    pub name: u32,
-    pub typename: u32,
-    pub ftype: u32,
-    pub length: u32,
-}
 
 // Whose elements are read: the place of the record, and the index of the class.
 pub struct Owner {
@@ -42,29 +32,6 @@ pub struct Span {
 pub enum Rows {
     Next(usize, usize),
     Wrong(u32, usize),
-}
-
-fn put_six(part: &mut [u32], row: Row)
-    requires { ⌜ 6 ≤ length (now part) ⌝ }
-    ensures { λ _. ⌜ after part ≡ patch (before part) 0 (six row) ⌝ }
-{
-    part[0] = row.class;
-    part[1] = row.kind;
-    part[2] = row.name;
-    part[3] = row.typename;
-    part[4] = row.ftype;
-    part[5] = row.length;
-}
-
-// Writes a row, where there is room for it.
-fn put_row(table: &mut [u32], n: usize, row: Row)
-    ensures { λ _. ⌜ after table ≡ putRow (before table) n row ⌝ }
-{
-    if table.len() / 6 <= n {
-        return;
-    }
-    let at = n * 6;
-    put_six(&mut table[at..], row);
 }
 
 // The row of an element.

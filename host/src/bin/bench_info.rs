@@ -1,7 +1,7 @@
 //! The StreamerInfo reader through the C interface beside the two Rust readers, on the same records in one run:
-//! large ones, and a small one in which every class is new.
+//! large ones, without options and with them, and a small one in which every class is new.
 
-use kirovadzun_host::gen::infos::{of_elements, of_tags, Info};
+use kirovadzun_host::gen::infos::{of_elements, of_options, of_tags, Info};
 use kirovadzun_host::model::streamer;
 use kirovadzun_host::programs::Program;
 use kirovadzun_host::timing::{best_used, print, print_one_of, shorter, Line};
@@ -18,6 +18,8 @@ const READS: usize = 10_000;
 fn main() {
     let lines = ELEMENTS.map(|elements| measure(&of_elements(elements), 1));
     print("read_info, all ten kinds, 20 elements to a class", "elements", &lines);
+    let lines = ELEMENTS.map(|elements| measure(&of_options(elements), 1));
+    print("read_info, 2 elements to a class, an option after each", "elements", &lines);
     let line = measure(&of_tags(), READS);
     print_one_of(READS, "read_info, all twelve new tags, the time for one record", "elements", &[line]);
 }

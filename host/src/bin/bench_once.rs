@@ -3,9 +3,9 @@
 //!     bench_once make WHAT ITEMS FILE
 //!     bench_once run PROGRAM WHAT ITEMS FILE
 //!
-//! WHAT is a shape of file; `info`, a StreamerInfo record; or `tags`, the smallest such record with all twelve new tags.
-//! ITEMS are the pieces, the elements, or how many times `tags` is read. PROGRAM is library, second, fast, or none, which
-//! only reads the file.
+//! WHAT is a shape of file; `info`, a StreamerInfo record; `options`, one of small classes with options; or `tags`, the
+//! smallest such record with all twelve new tags. ITEMS are the pieces, the elements, or how many times `tags` is read.
+//! PROGRAM is library, second, fast, or none, which only reads the file.
 
 use kirovadzun_host::ffi::Answer;
 use kirovadzun_host::gen::{infos, shapes};
@@ -15,6 +15,7 @@ use std::hint::black_box;
 use std::{env, fs, process};
 
 const INFO: &str = "info";
+const OPTIONS: &str = "options";
 const TAGS: &str = "tags";
 
 fn main() {
@@ -39,6 +40,7 @@ fn make(what: &str, items: usize, path: &str) -> Result<(), String> {
     let bytes = match shapes::ALL.iter().find(|shape| shape.name == what) {
         Some(shape) => (shape.plan)(items).build().bytes,
         None if what == INFO => infos::of_elements(items).bytes,
+        None if what == OPTIONS => infos::of_options(items).bytes,
         None if what == TAGS => infos::of_tags().bytes,
         None => return Err(format!("no shape {what}")),
     };
@@ -51,7 +53,7 @@ fn run(program: &str, what: &str, items: usize, path: &str) -> Result<(), String
         return if program == "none" { Ok(()) } else { Err(format!("no program {program}")) };
     };
     let (answer, count) = match what {
-        INFO => (read(program, &file, items, 1), items),
+        INFO | OPTIONS => (read(program, &file, items, 1), items),
         TAGS => (read(program, &file, KINDS.len(), items), KINDS.len()),
         _ => (audit(program, &file, items), items),
     };

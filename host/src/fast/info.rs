@@ -1,6 +1,6 @@
 //! The reader of an unpacked StreamerInfo record, straight into the lent table.
 
-use super::key::{be32, piece, string_size, Piece};
+use super::key::{be16, be32, piece, string_size, Piece};
 use crate::ffi::{number, Answer};
 use std::ops::Range;
 use std::slice::ChunksExactMut;
@@ -30,6 +30,8 @@ const NEW_CLASS: u32 = u32::MAX;
 const CLASS_MASK: u32 = 1 << 31;
 const COUNT_MASK: u32 = 1 << 30;
 const REFERENCED: u32 = 1 << 4;
+/// The least Version of a list with options. It alone has none in the long form.
+const LEAST_OPTIONS: u16 = 4;
 
 /// A refusal, and the offset of its field in the record.
 type Fault = (u64, usize);
@@ -73,6 +75,17 @@ fn rows_of(record: &[u8], keylen: usize, table: &mut [u32]) -> Result<usize, Fau
         Reader { record, at: keylen, tags: [NEW_CLASS; CLASSES.len()], table: table.chunks_exact_mut(ROW), rows: 0 };
     reader.list()?;
     Ok(reader.rows)
+}
+
+/// The bytes that the option takes in a list of this Version, its length's too; None if it has a wrong form or does not
+/// fit. Inlined, it would slow down the loop over elements.
+#[inline(never)]
+fn option_size(version: u16, bytes: &[u8]) -> Option<usize> {
+    match version {
+        ..LEAST_OPTIONS => Some(0),
+        LEAST_OPTIONS => bytes.first().map(|&len| 1 + usize::from(len)).filter(|&size| size <= bytes.len()),
+        _ => string_size(bytes),
+    }
 }
 
 /// Goes through the fields. `end` is the innermost open end wherever it is a parameter.
@@ -134,14 +147,14 @@ impl<'a> Reader<'a, '_> {
         self.end_of(count, end)
     }
 
-    /// A Version, then a TObject that is not referenced.
+    /// A Version, then a TObject that is not referenced: the Version.
     #[inline(always)]
-    fn version_and_base(&mut self, end: usize) -> Result<(), Fault> {
-        let bits = be32(self.run::<12>(&[2, 2, 4, 4], end)?, 8);
-        if bits & REFERENCED != 0 {
+    fn version_and_base(&mut self, end: usize) -> Result<u16, Fault> {
+        let run = self.run::<12>(&[2, 2, 4, 4], end)?;
+        if be32(run, 8) & REFERENCED != 0 {
             return Err((number::REFERENCED, self.at - 4));
         }
-        Ok(())
+        Ok(be16(run, 0))
     }
 
     /// The offset of a string's first length byte.
@@ -200,11 +213,12 @@ impl<'a> Reader<'a, '_> {
         if self.count(end)? != end {
             return Err((number::COUNT, at));
         }
-        self.version_and_base(end)?;
+        let version = self.version_and_base(end)?;
         self.no_name(end)?;
         let objects = be32(self.run::<4>(&[4], end)?, 0);
         for index in 0..objects {
             self.info(index, end)?;
+            self.at += option_size(version, &self.record[self.at..end]).ok_or((number::COUNT, self.at))?;
         }
         self.ends(end)
     }

@@ -1,7 +1,7 @@
-//! StreamerInfo records: a plan of classes and elements, and the bytes that it gives, with each field
+//! StreamerInfo records: a list of classes and elements, and the bytes that it gives, with each field
 //! known by what it is.
 
-use super::strings::{counted, lengthen, short_length};
+use super::strings::{any_length, counted, lengthen, plain_form, plain_length, short_length};
 use super::{RawKey, Rng};
 use crate::model::streamer::{Row, ARRAY, CLASS_MASK, COUNT_MASK, INFO, KINDS, NEW_CLASS, REFERENCED};
 use std::collections::HashMap;
@@ -19,11 +19,12 @@ pub struct Element {
     pub own: [u32; 2],
 }
 
-/// One class: its name, title and elements.
+/// One class: its name, title and elements, and the option after it in a list that has options.
 #[derive(Clone, Debug)]
 pub struct Class {
     pub strings: [Vec<u8>; 2],
     pub elements: Vec<Element>,
+    pub option: Vec<u8>,
 }
 
 impl Class {
@@ -31,6 +32,42 @@ impl Class {
     pub fn strings_mut(&mut self) -> impl Iterator<Item = &mut Vec<u8>> {
         let elements = self.elements.iter_mut().flat_map(|element| &mut element.strings);
         elements.chain(&mut self.strings)
+    }
+}
+
+/// The least Version of a list with options. It alone has none in the long form.
+pub const LEAST_OPTIONS: u16 = 4;
+/// Versions of lists: without options, with the least Version, and later ones.
+pub const LIST_VERSIONS: [u16; 6] = [0, 3, LEAST_OPTIONS, 5, 6, u16::MAX];
+
+/// The list of a record.
+#[derive(Clone, Debug)]
+pub struct List {
+    pub version: u16,
+    pub classes: Vec<Class>,
+}
+
+impl List {
+    /// One without options.
+    pub fn bare(classes: Vec<Class>) -> Self {
+        List { version: LEAST_OPTIONS - 1, classes }
+    }
+
+    /// One of a version, whose classes get random options.
+    fn of(rng: &mut Rng, version: u16, mut classes: Vec<Class>) -> Self {
+        let len = if version == LEAST_OPTIONS { plain_length } else { any_length };
+        if version >= LEAST_OPTIONS {
+            for class in &mut classes {
+                let len = len(rng);
+                class.option = rng.bytes(len);
+            }
+        }
+        List { version, classes }
+    }
+
+    /// Every string of its classes and their elements, but for the options.
+    pub fn strings_mut(&mut self) -> impl Iterator<Item = &mut Vec<u8>> {
+        self.classes.iter_mut().flat_map(Class::strings_mut)
     }
 }
 
@@ -42,11 +79,15 @@ pub enum What {
     /// A reference to the tag of a class.
     Reference(&'static str),
     Version,
+    /// The Version of the list.
+    ListVersion,
     /// The last number of a TObject.
     Bits,
     /// The name of the list or of an array.
     NoName,
     String,
+    /// The option after an object of the list.
+    Option,
     /// How many objects follow, before an array's lower bound.
     Objects,
     LowerBound,
@@ -114,6 +155,17 @@ pub fn put32(bytes: &mut [u8], at: usize, number: u32) {
     bytes[at..at + 4].copy_from_slice(&number.to_be_bytes());
 }
 
+/// The KeyLen of a record.
+pub fn keylen(record: &[u8]) -> usize {
+    u16::from_be_bytes([record[14], record[15]]).into()
+}
+
+/// Sets the Version of a record's list.
+pub fn put_list_version(record: &mut [u8], version: u16) {
+    let at = keylen(record) + 4;
+    record[at..at + 2].copy_from_slice(&version.to_be_bytes());
+}
+
 /// The bytes of a new class tag.
 pub fn new_tag(name: &[u8]) -> Vec<u8> {
     [&NEW_CLASS.to_be_bytes(), name, &[0]].concat()
@@ -137,7 +189,7 @@ pub fn class(rng: &mut Rng, kinds: &[usize]) -> Class {
         let len = short_length(rng);
         rng.bytes(len)
     });
-    Class { strings, elements: kinds.iter().map(|&kind| element(rng, kind)).collect() }
+    Class { strings, elements: kinds.iter().map(|&kind| element(rng, kind)).collect(), option: Vec::new() }
 }
 
 /// The same with no string longer than `most`.
@@ -147,33 +199,37 @@ pub fn short_class(rng: &mut Rng, kinds: &[usize], most: usize) -> Class {
     class
 }
 
-/// Up to four classes of up to six elements, of any kinds. Some of their strings are long.
-pub fn classes(rng: &mut Rng) -> Vec<Class> {
-    (0..rng.below(5))
-        .map(|_| {
-            let kinds: Vec<usize> = (0..rng.below(7)).map(|_| 1 + rng.below(10)).collect();
-            let mut class = class(rng, &kinds);
-            lengthen(rng, 30, class.strings_mut());
-            class
-        })
-        .collect()
+/// Up to four classes of up to six elements, of any kinds, in a list of one of LIST_VERSIONS. Some strings are long.
+pub fn list(rng: &mut Rng) -> List {
+    let classes = (0..rng.below(5)).map(|_| {
+        let kinds: Vec<usize> = (0..rng.below(7)).map(|_| 1 + rng.below(10)).collect();
+        let mut class = class(rng, &kinds);
+        lengthen(rng, 30, class.strings_mut());
+        class
+    });
+    let classes = classes.collect();
+    let version = rng.pick(&LIST_VERSIONS);
+    List::of(rng, version, classes)
 }
 
 /// Three classes with short strings: elements of all ten kinds, none, and some kinds again.
-pub fn all_kinds(rng: &mut Rng) -> Vec<Class> {
+pub fn all_kinds(rng: &mut Rng, version: u16) -> List {
     let kinds: [&[usize]; 3] = [&[1, 2, 3, 4, 5, 6, 7, 8, 9, 10], &[], &[7, 1, 10, 4, 9, 9]];
-    kinds.map(|kinds| short_class(rng, kinds, 3)).to_vec()
+    let classes = kinds.map(|kinds| short_class(rng, kinds, 3)).to_vec();
+    let mut list = List::of(rng, version, classes);
+    list.classes.iter_mut().for_each(|class| class.option.truncate(3));
+    list
 }
 
 /// The record at `at` of a file, with four-byte offsets in its key.
-pub fn build(rng: &mut Rng, at: u64, classes: &[Class], twist: Twist) -> Info {
-    build_of(rng, 4, at, classes, twist)
+pub fn build(rng: &mut Rng, at: u64, list: &List, twist: Twist) -> Info {
+    build_of(rng, 4, at, list, twist)
 }
 
 /// The same with a key of a version.
-pub fn build_of(rng: &mut Rng, version: u16, at: u64, classes: &[Class], twist: Twist) -> Info {
+pub fn build_of(rng: &mut Rng, version: u16, at: u64, list: &List, twist: Twist) -> Info {
     let key = key(rng, version, at);
-    build_with(rng, key, classes, twist)
+    build_with(rng, key, list, twist)
 }
 
 /// The key of an info record, without KeyLen, Nbytes and ObjLen.
@@ -193,12 +249,12 @@ pub fn key(rng: &mut Rng, version: u16, at: u64) -> RawKey {
 }
 
 /// A record with this key; KeyLen, Nbytes and ObjLen are worked out.
-pub fn build_with(rng: &mut Rng, mut key: RawKey, classes: &[Class], twist: Twist) -> Info {
+pub fn build_with(rng: &mut Rng, mut key: RawKey, list: &List, twist: Twist) -> Info {
     let keylen = key.sum();
     key.keylen = keylen as u16;
     let mut builder =
         Builder { bytes: key.header(), fields: Vec::new(), rows: Vec::new(), tags: HashMap::new(), twist, noise: rng };
-    builder.list(classes);
+    builder.list(list);
     let Builder { mut bytes, mut fields, rows, .. } = builder;
     for field in &mut fields {
         field.end = field.end.min(bytes.len());
@@ -299,16 +355,26 @@ impl Builder<'_> {
         at
     }
 
-    fn list(&mut self, classes: &[Class]) {
+    fn list(&mut self, list: &List) {
         self.object(|builder| {
-            builder.version();
+            builder.put(What::ListVersion, &list.version.to_be_bytes());
             builder.base();
             builder.put(What::NoName, &[0]);
-            builder.number(What::Objects, classes.len() as u32);
-            for (index, class) in classes.iter().enumerate() {
+            builder.number(What::Objects, list.classes.len() as u32);
+            for (index, class) in list.classes.iter().enumerate() {
                 builder.info(index as u32, class);
+                builder.option(list.version, &class.option);
             }
         });
+    }
+
+    fn option(&mut self, version: u16, option: &[u8]) {
+        let stored = match version {
+            ..LEAST_OPTIONS => return,
+            LEAST_OPTIONS => plain_form(option),
+            _ => counted(option),
+        };
+        self.put(What::Option, &stored);
     }
 
     fn info(&mut self, index: u32, class: &Class) {
@@ -363,15 +429,25 @@ impl Builder<'_> {
     }
 }
 
-/// Elements to a class in a record of the benchmarks.
-const EACH: usize = 20;
+/// Classes of `each` elements, the last of what is left, of all ten kinds in turn.
+fn classes_of(rng: &mut Rng, elements: usize, each: usize) -> Vec<Class> {
+    let kinds: Vec<usize> = (0..elements).map(|nth| 1 + nth % KINDS.len()).collect();
+    kinds.chunks(each).map(|kinds| class(rng, kinds)).collect()
+}
 
-/// A record of the benchmarks at 0: so many elements, a multiple of 20, of all ten kinds in turn.
+/// A record of the benchmarks at 0: so many elements, 20 to a class, without options.
 pub fn of_elements(elements: usize) -> Info {
     let mut rng = Rng::new(elements as u64);
-    let kinds: Vec<usize> = (0..EACH).map(|nth| 1 + nth % KINDS.len()).collect();
-    let classes: Vec<Class> = (0..elements / EACH).map(|_| class(&mut rng, &kinds)).collect();
-    build(&mut rng, 0, &classes, None)
+    let classes = classes_of(&mut rng, elements, 20);
+    build(&mut rng, 0, &List::bare(classes), None)
+}
+
+/// The same with two elements to a class and an option after it.
+pub fn of_options(elements: usize) -> Info {
+    let mut rng = Rng::new(elements as u64);
+    let classes = classes_of(&mut rng, elements, 2);
+    let list = List::of(&mut rng, 5, classes);
+    build(&mut rng, 0, &list, None)
 }
 
 /// The smallest record with all twelve new tags, at 0: one class, an element of each kind, empty strings.
@@ -379,5 +455,5 @@ pub fn of_tags() -> Info {
     let mut rng = Rng::new(0);
     let kinds: Vec<usize> = (1..=KINDS.len()).collect();
     let class = short_class(&mut rng, &kinds, 0);
-    build(&mut rng, 0, &[class], None)
+    build(&mut rng, 0, &List::bare(vec![class]), None)
 }

@@ -17,10 +17,15 @@ pub fn length_size(len: usize) -> usize {
 /// A string with its length before it, in the form of that length.
 pub fn counted(string: &[u8]) -> Vec<u8> {
     if string.len() < LEAST_LONG {
-        [&[string.len() as u8], string].concat()
+        plain_form(string)
     } else {
         long_form(string.len() as u32, string)
     }
+}
+
+/// A string of at most 255 bytes, its length in one byte.
+pub fn plain_form(string: &[u8]) -> Vec<u8> {
+    [&[u8::try_from(string.len()).unwrap()], string].concat()
 }
 
 /// The long form of a length, right or not, before a string: the byte 255 and four bytes.
@@ -49,6 +54,15 @@ pub fn short_length(rng: &mut Rng) -> usize {
 /// The length of a string in the long form, mostly near the least.
 fn long_length(rng: &mut Rng) -> usize {
     LEAST_LONG + if rng.once_in(8) { rng.below(700) } else { rng.below(6) }
+}
+
+/// The length of an option that one byte counts, 255 too.
+pub fn plain_length(rng: &mut Rng) -> usize {
+    if rng.once_in(8) {
+        LEAST_LONG
+    } else {
+        short_length(rng)
+    }
 }
 
 /// Either, the long ones rarely.

@@ -102,8 +102,13 @@ impl<'a> Reader<'a> {
         Ok(&self.record[self.at - len..self.at])
     }
 
+    /// A number of at most four bytes.
+    fn number(&mut self, width: usize) -> Read<u32> {
+        Ok(self.field(width)?.iter().fold(0, |number, &byte| number << 8 | u32::from(byte)))
+    }
+
     fn u32(&mut self) -> Read<u32> {
-        Ok(self.field(4)?.iter().fold(0, |number, &byte| number << 8 | u32::from(byte)))
+        self.number(4)
     }
 
     /// Fields of these widths whose values do not matter.
@@ -207,12 +212,28 @@ impl<'a> Reader<'a> {
             return bad(number::COUNT, at);
         }
         self.up_to(end, |reader| {
-            reader.skip(&[2])?;
+            let version = reader.number(2)?;
             reader.base()?;
             reader.no_name()?;
             let objects = reader.u32()?;
-            (0..objects).try_for_each(|index| reader.info(index))
+            (0..objects).try_for_each(|index| {
+                reader.info(index)?;
+                reader.option(version)
+            })
         })
+    }
+
+    /// The option after an object of a list of this Version, one field: none below 4, and in 4 its first byte is
+    /// its length, 255 too.
+    fn option(&mut self, version: u32) -> Read<()> {
+        match version {
+            0..=3 => Ok(()),
+            4 => {
+                let len = self.record[self.at..self.end].first().map_or(0, |&len| len.into());
+                self.skip(&[1 + len])
+            }
+            _ => self.string().map(drop),
+        }
     }
 
     /// The TStreamerInfo of one class.

@@ -1,4 +1,4 @@
-/* Reads a StreamerInfo record of one class with one element from C. */
+/* Reads a StreamerInfo record of one class with one element from C, with an option after it and without. */
 #include "rootmap.h"
 
 #include <stdio.h>
@@ -94,12 +94,14 @@ static void element(size_t *name, size_t *type_name)
     close_at(outer);
 }
 
-static void record(size_t *name, size_t *type_name)
+/* With this Version of the list, and an option with its length after the object. */
+static void record(uint8_t version, const char *option, size_t option_len, size_t *name, size_t *type_name)
 {
     size_t list, info, info_in, array, array_in;
     end = PLACE + 64;
     list = open_here();
     version_and_object();
+    file[list + 1] = version;
     bytes("\0", 1);
     number(1);
     info = open_here();
@@ -121,6 +123,7 @@ static void record(size_t *name, size_t *type_name)
     close_at(array);
     close_at(info_in);
     close_at(info);
+    bytes(option, option_len);
     close_at(list);
     check(rootmap_write_key((uint32_t)(end - PLACE), 4, (uint32_t)(end - PLACE - 64), 0, 1, PLACE, 100,
                             (const uint8_t *)"TList", 5, (const uint8_t *)"StreamerInfo", 12,
@@ -147,16 +150,35 @@ static int holds(size_t len, const uint32_t *row, size_t row_len)
     return 1;
 }
 
+/* An option after the object, or none. */
+static void options(const uint32_t *row)
+{
+    size_t name, type_name;
+
+    record(5, "\3opt", 4, &name, &type_name);
+    check(read_info(PLACE, 13) == 0 && place == 0 && count == 1, "a list with an option is read");
+    check(holds(13, row, 6), "the row before an option");
+    file[end - 4] = 4;
+    check(read_info(PLACE, 13) == 21 && place == end - 4 && count == 0, "an option past the list's end is 21");
+    check(holds(13, row, 0), "zeros after 21");
+    record(4, "", 0, &name, &type_name);
+    check(read_info(PLACE, 13) == 21 && place == end && count == 0, "no option in a list of Version 4 is 21");
+    record(3, "\3opt", 4, &name, &type_name);
+    check(read_info(PLACE, 13) == 21 && place == end - 4 && count == 0, "an option in a list of Version 3 is 21");
+}
+
 int main(void)
 {
     uint32_t row[6] = {0, 2, 0, 0, 3, 5};
     size_t name = 0, type_name = 0;
 
-    record(&name, &type_name);
+    record(3, "", 0, &name, &type_name);
     row[2] = (uint32_t)name;
     row[3] = (uint32_t)type_name;
     check(read_info(PLACE, 13) == 0 && place == 0 && count == 1, "the record is read");
     check(holds(13, row, 6), "its row");
+    options(row);
+    record(3, "", 0, &name, &type_name);
     file[TAG + 4 + 9] ^= 1;
     check(read_info(PLACE, 13) == 22 && place == TAG && count == 0, "another class name is 22");
     check(holds(13, row, 0), "zeros after 22");

@@ -1,5 +1,6 @@
-use Rattle.streamer.proofs.Runs.{as-run, ran-stop, ran-ends, not-grown, grown-ends}
+use Rattle.streamer.proofs.Runs.{run-stop, run-as, run-onward}
 use Rattle.streamer.specs.Info.{arrayAt}
+use Rattle.infolist.proofs.Lists.{go-objects, halt-objects, from-array}
 use Rattle.infotag.proofs.Tags.{go-head, halt-head, head-bounds}
 use mathlib.Core.Path.{refl}
 use native.Mathlib.Omega.{arith}
@@ -7,12 +8,9 @@ use borrow.Author.Needs.{needs}
 use Rattle.streamer.proofs.info.array.Statement.{statement}
 use Rattle.streamer.proofs.info.array.Tie as tie
 
-read-head-requires : tie.Need-read-head-requires
-read-head-requires c κs = search needs
-
 returns : tie.Need-returns
 unfolding arrayAt
-returns c = (ran-stop _ _ _ _ (halt-head _ _ (c .before .before .before .read-head .ensures) (c .before .number .given .1)), not-grown _ _ _ _)
+returns c = run-stop _ _ _ _ _ (halt-head _ _ (c .before .before .before .read-head .ensures) (c .before .number .given .1))
 
 mul-tags : tie.Need-mul-tags
 mul-tags c = let h = head-bounds _ _ _ _ _ _ _ (c .before .before .before .read-head .ensures) (c .before .start .given .1) in omega (arith, h)
@@ -22,26 +20,34 @@ element-write-tags c =
     let h = head-bounds _ _ _ _ _ _ _ (c .before .before .before .read-head .ensures) (c .before .start .given .1) in
     omega (arith, h)
 
-array-body-requires : tie.Need-array-body-requires
-array-body-requires c κs =
-    let h = head-bounds _ _ _ _ _ _ _ (c .before .before .before .before .before .read-head .ensures) (c .before .before .before .start .given .1) in
-    omega (arith, h, c .before .before .before .before .before .before .before .before .before .before .pre)
-
-close-at-requires : tie.Need-close-at-requires
-close-at-requires c κs = search needs
-
 returns-2 : tie.Need-returns-2
 unfolding arrayAt
-returns-2 c = (
-  as-run _ _ _ _ _ (go-head _ _ (c .before .before .before .before .before .before .before .before .before .read-head .ensures) (c .before .before
-      .before .before .before .before .before .start .given .1) refl) (ran-ends _ _ _ _ _ _ _ _ (c .before .before .before .array-body .ensures .0) (c
-      .close-at .ensures)),
-  grown-ends _ _ _ _ _ (c .before .before .before .array-body .ensures .1) (c .close-at .ensures),
-)
+returns-2 c =
+    let c5 = c .before .before .before .before .before in
+    run-stop _ _ _ _ _ (go-head _ _ (c5 .before .before .read-head .ensures) (c5 .start .given .1)
+    (halt-objects _ _ (c .before .before .before .read-array .ensures) (c .before .number2 .given .1)))
+
+elements-requires : tie.Need-elements-requires
+elements-requires c κs =
+    let c3 = c .before .before .before in
+    let c7 = c3 .before .before .before .before in
+    let h = head-bounds _ _ _ _ _ _ _ (c7 .before .before .read-head .ensures) (c7 .start .given .1) in
+    let i = from-array _ _ _ (c3 .before .before .read-array .ensures) (c3 .list .given .1) in
+    omega (arith, h, i, c7 .before .before .before .before .before .before .before .pre)
+
+returns-3 : tie.Need-returns-3
+unfolding arrayAt
+returns-3 c =
+    let c8 = c .before .before .before .before .before .before .before .before in
+    let c12 = c8 .before .before .before .before in
+    let k = run-onward _ _ _ _ _ _ _ _ _ (c .before .before .before .before .elements .ensures) (c .before .close-at .ensures) in
+    run-as _ _ _ _ _ _ (go-head _ _ (c12 .before .before .read-head .ensures) (c12 .start .given .1)
+    (go-objects _ _ (c8 .before .before .read-array .ensures) (c8 .list .given .1) refl))
+    (run-onward _ _ _ _ _ _ _ _ _ k (c .close-at2 .ensures))
 
 pub array-spec : {M : Type 1} → statement M
 array-spec =
     tie.close
     (tie.spec
-    read-head-requires (search needs) (search needs) returns mul-tags element-write-tags array-body-requires close-at-requires
-    (search needs) returns-2)
+    (search needs) (search needs) (search needs) returns mul-tags element-write-tags (search needs) (search needs) (search needs)
+    returns-2 elements-requires (search needs) (search needs) (search needs) returns-3)

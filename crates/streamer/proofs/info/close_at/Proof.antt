@@ -1,6 +1,6 @@
 use mathlib.Core.Path.{refl}
 use Rattle.infofield.proofs.Steps.{go-on, halt}
-use Rattle.streamer.proofs.Runs.{closed-next}
+use Rattle.streamer.proofs.Runs.{stepped-next}
 use borrow.Author.Needs.{needs}
 use Rattle.streamer.proofs.info.close_at.Statement.{statement}
 use Rattle.streamer.proofs.info.close_at.Tie as tie
@@ -25,12 +25,12 @@ enum-known-number c = search needs
 
 returns-2 : tie.Need-returns-2
 returns-2 c =
-    closed-next _ _ (c .before .before .before .before .before .r .given .1) (go-on _ _ (c .before .before .before .ended .ensures) (c
+    stepped-next _ _ (c .before .before .before .before .before .r .given .1) (go-on _ _ (c .before .before .before .ended .ensures) (c
     .before .next .given .1) refl)
 
 returns-3 : tie.Need-returns-3
 returns-3 c =
-    closed-next _ _ (c .before .before .before .before .before .r .given .1) (halt _ _ (c .before .before .before .ended .ensures) (c
+    stepped-next _ _ (c .before .before .before .before .before .r .given .1) (halt _ _ (c .before .before .before .ended .ensures) (c
     .before .number .given .1))
 
 pub close-at-spec : {M : Type 1} → statement M
