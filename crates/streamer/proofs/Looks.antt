@@ -134,7 +134,8 @@ module _ (s : List ℕ) (o : Owner) where
       on-opened _ (λ b.
       on-onward _ _ (on-onward _ _ (array-both (b .close) _ (b .from) u))))
 
-list-object-both : (s : List ℕ) (rec : ℕ) (n : Objects) (i : ℕ) → Both s (ownerOf rec i) (listObjectAt once s rec n i) (listObjectAt (twice rec) s rec n i)
+list-object-both : (s : List ℕ) (rec : ℕ) (n : Objects) (i : ℕ)
+    → Both s (ownerOf rec i) (listObjectAt once s rec n i) (listObjectAt (twice rec) s rec n i)
 unfolding listObjectAt
 list-object-both s rec n i ts p t = on-onward _ _ (class-both s (ownerOf rec i) (n .end) ts p t)
 

@@ -4,9 +4,6 @@ use borrow.Author.Needs.{needs}
 use Rattle.infoelement.proofs.element.counter.Statement.{statement}
 use Rattle.infoelement.proofs.element.counter.Tie as tie
 
-enum-told : tie.Need-enum-told
-enum-told c = search needs
-
 returns : tie.Need-returns
 unfolding counterAt
 returns c = halts _ (c .before .before .numbers .ensures) (c .enum-told .given .1)
@@ -28,5 +25,5 @@ pub counter-spec : {M : Type 1} → statement M
 counter-spec =
     tie.close
     (tie.spec
-    (search needs) (search needs) enum-told returns (search needs) (search needs) (search needs) returns-2 (search needs)
+    (search needs) (search needs) (search needs) returns (search needs) (search needs) (search needs) returns-2 (search needs)
     returns-3)

@@ -6,15 +6,9 @@ use borrow.Author.Needs.{needs}
 use Rattle.infolist.proofs.list.read_array.Statement.{statement}
 use Rattle.infolist.proofs.list.read_array.Tie as tie
 
-enum-told : tie.Need-enum-told
-enum-told c = search needs
-
 returns : tie.Need-returns
 unfolding arrayBodyAt
 returns c = opens-not _ _ _ (c .before .before .«open» .ensures) (c .enum-told .given .1)
-
-enum-told-2 : tie.Need-enum-told-2
-enum-told-2 c = search needs
 
 returns-2 : tie.Need-returns-2
 unfolding arrayBodyAt
@@ -46,5 +40,5 @@ pub read-array-spec : {M : Type 1} → statement M
 read-array-spec =
     tie.close
     (tie.spec
-    (search needs) (search needs) enum-told returns (search needs) (search needs) enum-told-2 returns-2 (search needs) (search needs)
+    (search needs) (search needs) (search needs) returns (search needs) (search needs) (search needs) returns-2 (search needs) (search needs)
     (search needs) returns-3 returns-4)

@@ -6,9 +6,6 @@ use borrow.Author.Needs.{needs}
 use Rattle.infolist.proofs.list.whole_list.Statement.{statement}
 use Rattle.infolist.proofs.list.whole_list.Tie as tie
 
-enum-told : tie.Need-enum-told
-enum-told c = search needs
-
 returns : tie.Need-returns
 unfolding wholeListAt
 returns c = opens-not _ _ _ (c .before .before .«open» .ensures) (c .enum-told .given .1)
@@ -24,4 +21,4 @@ returns-3 c =
     fills _ _ _ o (c .before .before .before .from .given .1) (omega arith) (c .read-collection .ensures)
 
 pub whole-list-spec : {M : Type 1} → statement M
-whole-list-spec = tie.close (tie.spec (search needs) (search needs) enum-told returns returns-2 (search needs) returns-3)
+whole-list-spec = tie.close (tie.spec (search needs) (search needs) (search needs) returns returns-2 (search needs) returns-3)

@@ -18,33 +18,24 @@ loop-holds : tie.Need-loop-holds Inv-loop μ-loop
 loop-holds c = (read-began _ _ _ _ _, (omega arith, omega arith))
 
 element-requires : tie.Need-element-requires Inv-loop μ-loop
-element-requires c κs = omega (arith, c .before .before .before .loop .inv .1, c .before .before .before .before .before .before .pre)
-
-enum-told : tie.Need-enum-told Inv-loop μ-loop
-enum-told c = search needs
+element-requires c κs =
+    let c3 = c .before .before .before in
+    omega (arith, c3 .loop .inv .1, c3 .before .before .before .pre)
 
 returns : tie.Need-returns Inv-loop μ-loop
-returns c = (
-  read-stopped (c .before .before .before .before .before .before .before .before .loop .inv .0) _ _ _ _ (omega arith) (c .before .before .before
-      .before .element .ensures .0) (c .enum-told .given .1),
-  wrong-grown _ _ (c .enum-told .given .1),
-)
+returns c =
+    let c4 = c .before .before .before .before in
+    let w = c4 .before .before .before .before .loop .inv in
+    let e = c .enum-told .given .1 in
+    (read-stopped (w .0) _ _ _ _ (omega arith) (c4 .element .ensures .0) e, wrong-grown _ _ e)
 
 loop-again : tie.Need-loop-again Inv-loop μ-loop
 loop-again c =
-    let w = c .before .before .before .before .before .before .before .before .before .loop .inv in
-    let g = grown-by _ _ (c .before .before .before .before .before .element .ensures .1) (c .before .r .given .1) in (
-      read-more (w .0) _ (c .before .before .before .before .before .element .ensures .0) (c .before .r .given .1) (search needs),
-      (
-        omega arith,
-        omega (
-          arith,
-          g,
-          w
-              .1,
-        ),
-      ),
-    )
+    let c5 = c .before .before .before .before .before in
+    let w = c5 .before .before .before .before .loop .inv in
+    let g = grown-by _ _ (c5 .element .ensures .1) (c .before .r .given .1) in
+    let more = read-more (w .0) _ (c5 .element .ensures .0) (c .before .r .given .1) (search needs) in
+    (more, (omega arith, omega (arith, g, w .1)))
 
 same-length-2 : tie.Need-same-length-2 Inv-loop μ-loop
 same-length-2 c = c .before .loop .inv .0 .table
@@ -56,5 +47,5 @@ pub elements-spec : {M : Type 1} → statement M
 elements-spec =
     tie.close
     (tie.spec
-    Inv-loop μ-loop loop-holds element-requires (search needs) enum-told (search needs) returns (search needs) (search needs)
+    Inv-loop μ-loop loop-holds element-requires (search needs) (search needs) (search needs) returns (search needs) (search needs)
     loop-again same-length-2 returns-2)

@@ -6,9 +6,6 @@ use borrow.Author.Needs.{needs}
 use Rattle.streamer.proofs.info.list_object.Statement.{statement}
 use Rattle.streamer.proofs.info.list_object.Tie as tie
 
-enum-told : tie.Need-enum-told
-enum-told c = search needs
-
 returns : tie.Need-returns
 unfolding listObjectAt
 returns c = run-onward _ _ _ _ _ _ _ _ _ (c .before .before .before .before .class .ensures) (stepped-wrong _ _ (c .enum-told .given .1))
@@ -31,5 +28,5 @@ pub list-object-spec : {M : Type 1} → statement M
 list-object-spec =
     tie.close
     (tie.spec
-    (search needs) (search needs) enum-told (search needs) returns (search needs) (search needs) (search needs) (search needs) returns-2
+    (search needs) (search needs) (search needs) (search needs) returns (search needs) (search needs) (search needs) (search needs) returns-2
     (search needs) returns-3)

@@ -19,37 +19,23 @@ loop-holds c = (read-began _ _ _ _ _, (omega arith, omega arith))
 
 list-object-requires : tie.Need-list-object-requires Inv-loop μ-loop
 list-object-requires c κs =
-    omega (
-      arith,
-      c .before .before .before .loop .inv .1,
-      c .before .before .before .before .before .before .pre,
-      c .before .before .before .before
-          .before .before .fits,
-    )
-
-enum-told : tie.Need-enum-told Inv-loop μ-loop
-enum-told c = search needs
+    let c3 = c .before .before .before in
+    let c6 = c3 .before .before .before in
+    omega (arith, c3 .loop .inv .1, c6 .pre, c6 .fits)
 
 returns : tie.Need-returns Inv-loop μ-loop
 returns c =
-    read-stopped (c .before .before .before .before .before .before .before .before .loop .inv .0) _ _ _ _ (omega arith) (c .before .before .before
-    .before .list-object .ensures .0) (c .enum-told .given .1)
+    let c4 = c .before .before .before .before in
+    let w = c4 .before .before .before .before .loop .inv in
+    read-stopped (w .0) _ _ _ _ (omega arith) (c4 .list-object .ensures .0) (c .enum-told .given .1)
 
 loop-again : tie.Need-loop-again Inv-loop μ-loop
 loop-again c =
-    let w = c .before .before .before .before .before .before .before .before .before .loop .inv in
-    let g = grown-by _ _ (c .before .before .before .before .before .list-object .ensures .1) (c .before .r .given .1) in (
-      read-more (w .0) _ (c .before .before .before .before .before .list-object .ensures .0) (c .before .r .given .1) (search needs),
-      (
-        omega arith,
-        omega (
-          arith,
-          g,
-          w
-              .1,
-        ),
-      ),
-    )
+    let c5 = c .before .before .before .before .before in
+    let w = c5 .before .before .before .before .loop .inv in
+    let g = grown-by _ _ (c5 .list-object .ensures .1) (c .before .r .given .1) in
+    let more = read-more (w .0) _ (c5 .list-object .ensures .0) (c .before .r .given .1) (search needs) in
+    (more, (omega arith, omega (arith, g, w .1)))
 
 same-length-2 : tie.Need-same-length-2 Inv-loop μ-loop
 same-length-2 c = c .before .loop .inv .0 .table
@@ -61,5 +47,5 @@ pub list-objects-spec : {M : Type 1} → statement M
 list-objects-spec =
     tie.close
     (tie.spec
-    Inv-loop μ-loop loop-holds list-object-requires (search needs) enum-told (search needs) returns (search needs) (search needs)
+    Inv-loop μ-loop loop-holds list-object-requires (search needs) (search needs) (search needs) returns (search needs) (search needs)
     loop-again same-length-2 returns-2)
