@@ -1,165 +1,181 @@
 -- One copy of a keys list, and copies one after the other.
-use Prim.Native.Nat.{ℕ, suc, _-_, _<_, _≤_}
+use Prim.Native.Nat.{ℕ, suc, _+_, _-_, _%_, _<_, _≤_}
+use mathlib.Core.Bool.{Bool, true, false, not}
 use mathlib.Core.List.{List}
 use mathlib.Core.Logic.{⊎-elim}
-use mathlib.Core.Path.{_≡_, refl, sym, ap, _∙_, subst}
+use mathlib.Core.Path.{_≡_, refl, sym, ap, _∙_}
 use native.Mathlib.Omega.{arith}
-use borrow.Author.Tests.{eq-eqb, ne-eqb, le-leb, lt-leb}
-use lib.Dec.{leb}
-use lib.ListN.{length, getD, set, length-set}
-use lib.Seq.{getD-set-other}
-use Rattle.wire.specs.Check.{pick}
-use Rattle.wire.specs.Number.{lesser}
-use Rattle.wire.proofs.Checks.{below-or}
-use Rattle.wire.proofs.Numbers.{lesser-within}
-use Rattle.rules.specs.Turn.{Turn, going, stop, andThen, copyTurn, copies}
-use Rattle.rules.proofs.Items.{same?}
-use Rattle.rows.specs.Row.{Rises}
-use Rattle.copies.specs.Copy.{given, copyStep, Tests}
+use borrow.Author.Tests.{eq-eqb, ne-eqb}
+use lib.ListN.{length, getD, set}
+use lib.Seq.{getD-set-same, set-set}
+use Rattle.wire.proofs.Checks.{below-or, false-true}
+use Rattle.record.proofs.Tests.{passed}
+use Rattle.rules.specs.Turn.{Turn, going, stop, andThen, copies}
+use Rattle.copies.specs.Copy.{given, entryStep, Tests}
 use Rattle.copies.specs.declared.Span.{Span}
 use Rattle.copies.specs.declared.Claim.{Claim}
 use Rattle.copies.specs.declared.Entry.{Entry}
 use Rattle.copies.specs.declared.Entry.the-variants as entry
-use Rattle.audit.specs.Listing.{Ran, NoneBelow, NoOther, Tables}
+use Rattle.waiting.specs.Waiting.{partsIn, Keeps}
+use Rattle.waiting.specs.declared.Waiting.{Waiting}
+use Rattle.waiting.proofs.Trees.{part-at, parts-size}
+use Rattle.audit.specs.Listing.{Sized, Tables, Ran, Told, Went, Assigns, Marks, copiesStep}
 use Rattle.audit.specs.declared.keys.Listed.{Listed}
 use Rattle.audit.specs.declared.keys.Listed.the-variants.{Next, Fault}
 
 -- an answer that is a turn's
-pub ran-next : (ps os : List ℕ) (c low : ℕ) {x : Turn} → x ≡ going ps os c → Ran x (Next c low) ps os
+pub went : (qs p vs : List ℕ) (c : ℕ) (w : Waiting) {x : Turn} → x ≡ going (partsIn p) vs c → Keeps qs p w → Went qs x (Next c w) p vs
+unfolding Ran Told
+went qs p vs c w e k = (rw e (refl, (refl, refl)), k)
+
+pub ran-fault : (us vs : List ℕ) (n q : ℕ) {x : Turn} → x ≡ stop n q → Ran x (Fault n q) us vs
 unfolding Ran
-ran-next ps os c low e = rw e (refl, (refl, refl))
+ran-fault us vs n q e = rw e (refl, refl)
 
-pub ran-fault : (us vs : List ℕ) (n p : ℕ) {x : Turn} → x ≡ stop n p → Ran x (Fault n p) us vs
+pub faulted : (qs p vs : List ℕ) (n q : ℕ) {x : Turn} → x ≡ stop n q → Went qs x (Fault n q) p vs
+unfolding Told
+faulted qs p vs n q e = (ran-fault (partsIn p) vs n q e, tt)
+
+pub next-is : (x : Turn) (us vs : List ℕ) {r : Listed} {at : ℕ} {w : Waiting} → r ≡ Next at w → Ran x r us vs → x ≡ going us vs at
 unfolding Ran
-ran-fault us vs n p e = rw e (refl, refl)
+next-is x us vs {r} {at} {w} e h = go x (rw e at h)
+  where
+    go : (x : Turn) → Ran x (Next at w) us vs → x ≡ going us vs at
+    go (going ps os c) h = sym (λ i. going (h .1 .0 i) (h .1 .1 i) (h .0 i))
+    go (stop n p) h = absurd h
 
-pub next-is : (x : Turn) (us vs : List ℕ) (at low : ℕ) → Ran x (Next at low) us vs → x ≡ going us vs at
+pub fault-is : (x : Turn) (us vs : List ℕ) {r : Listed} {n p : ℕ} → r ≡ Fault n p → Ran x r us vs → x ≡ stop n p
 unfolding Ran
-next-is (going ps os c) us vs at low h = sym (λ i. going (h .1 .0 i) (h .1 .1 i) (h .0 i))
-next-is (stop n p) us vs at low h = absurd h
+fault-is x us vs {r} {n} {p} e h = go x (rw e at h)
+  where
+    go : (x : Turn) → Ran x (Fault n p) us vs → x ≡ stop n p
+    go (going ps os c) h = absurd h
+    go (stop m q) h = sym (λ i. stop (h .0 i) (h .1 i))
 
-pub fault-is : (x : Turn) (us vs : List ℕ) (n p : ℕ) → Ran x (Fault n p) us vs → x ≡ stop n p
-unfolding Ran
-fault-is (going ps os c) us vs n p h = absurd h
-fault-is (stop m q) us vs n p h = sym (λ i. stop (h .0 i) (h .1 i))
+pub told-is : (qs p : List ℕ) {r : Listed} {at : ℕ} {w : Waiting} → r ≡ Next at w → Told qs p r → Keeps qs p w
+unfolding Told
+told-is qs p e h = rw e at h
 
--- a refusal tells no row
-pub quiet-fault : (ps us : List ℕ) (n p : ℕ) → NoneBelow ps us (Fault n p)
-unfolding NoneBelow
-quiet-fault ps us n p = tt
-
-abbrev pub Below : List ℕ → List ℕ → ℕ → Type 0
-Below ps us low = (i : ℕ) → i < low → 8 ≤ getD us i 0 → 8 ≤ getD ps i 0
-
-pub quiet-next : (ps us : List ℕ) (at low : ℕ) → Below ps us low → NoneBelow ps us (Next at low)
-unfolding NoneBelow
-quiet-next ps us at low h = h
-
-pub from-quiet : (ps us : List ℕ) (at low : ℕ) → NoneBelow ps us (Next at low) → Below ps us low
-unfolding NoneBelow
-from-quiet ps us at low h = h
-
-pub faulted : (ps us vs : List ℕ) (n p : ℕ) {x : Turn} → x ≡ stop n p → Ran x (Fault n p) us vs × NoneBelow ps us (Fault n p)
-faulted ps us vs n p e = (ran-fault us vs n p e, quiet-fault ps us n p)
+-- a turn that stopped, and goes on stopped
+pub stays-stopped : (qs p vs : List ℕ) (r : Listed) {n q : ℕ} {x y : Turn} → r ≡ Fault n q → Ran x r (partsIn p) vs
+    → (x ≡ stop n q → y ≡ stop n q) → Went qs y r p vs
+stays-stopped qs p vs r {n} {q} {x} e h f = rw e (faulted qs p vs n q (f (fault-is x (partsIn p) vs e h)))
 
 -- tables of the same lengths
-pub tables-kept : {qs ps os us vs : List ℕ} → Tables qs ps os → length us ≡ length ps → length vs ≡ length os → Tables qs us vs
-tables-kept t e f = record { rising = t .rising; parts = e ∙ t .parts; owners = f ∙ t .owners }
+pub sized-kept : {qs p os us vs : List ℕ} → Sized qs p os → length us ≡ length p → length vs ≡ length os → Sized qs us vs
+sized-kept t e f = record { rising = t .rising; parts = e ∙ t .parts; owners = f ∙ t .owners }
 
--- a row that is set: no other holds a directory that was found
-pub row-set : (ps os : List ℕ) (i m d c : ℕ) {x : Turn} → i < length ps → x ≡ going (set ps i m) (set os i d) c
-    → Ran x (Next c i) (set ps i m) (set os i d) × NoOther ps (set ps i m) (Next c i)
-unfolding NoOther
-row-set ps os i m d c k e = (
-  ran-next (set ps i m) (set os i d) c i e,
-  (rw length-set k, λ j n h. rw (getD-set-other ps i j m 0 n) at h),
-)
+-- a record that has a part, and one that has none
+module _ (p os : List ℕ) (g : Claim) where
+  pub part-there : (us vs : List ℕ) → (getD p (g .row) 0 % 16 ≡ 7 → ⊥) → Assigns p os us vs g false
+  part-there us vs z = record {
+    told = sym (ne-eqb (getD (partsIn p) (g .row) 0) 7 (λ e. z (sym (part-at p (g .row)) ∙ e)));
+    parts = false-true;
+    owners = false-true;
+    kept = λ h. false-true h;
+  }
 
-pub copy-stopped : (ps us vs : List ℕ) (n p : ℕ) {x : Turn} → x ≡ stop n p → Ran x (Fault n p) us vs × NoOther ps us (Fault n p)
-unfolding NoOther
-copy-stopped ps us vs n p e = (ran-fault us vs n p e, tt)
+  pub part-given : g .row < length p → getD p (g .row) 0 % 16 ≡ 7 → {us : List ℕ} → partsIn us ≡ set (partsIn p) (g .row) (g .part % 8)
+      → ((qs : List ℕ) (w : Waiting) → Keeps qs p w → g .row < length p → getD p (g .row) 0 % 16 < 8 → Keeps qs us w)
+      → Assigns p os us (set os (g .row) (g .dir)) g true
+  part-given l z e k = record {
+    told = sym (eq-eqb (getD (partsIn p) (g .row) 0) 7 (part-at p (g .row) ∙ z));
+    parts = λ h. e;
+    owners = λ h. refl;
+    kept = λ h {qs} {w} i. k qs w i l (omega arith);
+  }
 
--- a claim that is met, or comes too late
-module _ (g : Claim) (ps os : List ℕ) where
-  pub claim-late : (us vs : List ℕ) → (getD ps (g .row) 0 ≡ 7 → ⊥)
-      → Ran (given g ps os) (Fault 14 (g .place)) us vs × NoOther ps us (Fault 14 (g .place))
-  claim-late us vs z = copy-stopped ps us vs 14 (g .place) (rw (ne-eqb (getD ps (g .row) 0) 7 z))
+-- a claim that comes too late, or is met
+module _ {g : Claim} {p os us vs : List ℕ} {b : Bool} (a : Assigns p os us vs g b) where
+  pub claim-late : not b ≡ true → given g (partsIn p) os ≡ stop 14 (g .place)
+  claim-late h = rw (sym (a .told) ∙ not-true b h)
+    where
+      not-true : (b : Bool) → not b ≡ true → b ≡ false
+      not-true true h = false-true h
+      not-true false h = refl
 
-  pub claim-made : g .row < length ps → getD ps (g .row) 0 ≡ 7 → Ran (given g ps os) (Next (g .next) (g .row))
-      (set ps (g .row) (g .part)) (set os (g .row) (g .dir)) × NoOther ps (set ps (g .row) (g .part)) (Next (g .next) (g .row))
-  claim-made l z = row-set ps os (g .row) (g .part) (g .dir) (g .next) l (rw (eq-eqb (getD ps (g .row) 0) 7 z))
+  module _ (h : not b ≡ false) where
+    met : b ≡ true
+    met = passed b b refl h
 
--- one copy, from its test
-module _ {s qs : List ℕ} {l : Span} {c : ℕ} {x : Entry} (h : Tests s qs l c x) (up : Rises qs) (ps os us vs : List ℕ) where
-  pub copy-gave : {g : Claim} (r : Listed) → x ≡ entry.Fits g → Ran (given g ps os) r us vs × NoOther ps us r
-      → Ran (copyStep s qs l c ps os) r us vs × NoOther ps us r
-  copy-gave r e k = (rw (h .step up ps os, e) (k .0), k .1)
+    pub claim-kept : {qs : List ℕ} {w : Waiting} → Keeps qs p w → Keeps qs us w
+    claim-kept = a .kept met
 
-  pub copy-stops : {n p : ℕ} → x ≡ entry.Fault n p → Ran (copyStep s qs l c ps os) (Fault n p) us vs × NoOther ps us (Fault n p)
-  copy-stops {n} {p} e = copy-stopped ps us vs n p (h .step up ps os ∙ rw e)
+    gives : (ws : List ℕ) → partsIn ws ≡ set (partsIn p) (g .row) (g .part) → given g (partsIn p) os ≡ going (partsIn ws) vs (g .next)
+    gives ws f = rw (sym (a .told) ∙ met, f, a .owners met)
 
--- the lower row, if a directory was found in the first
-pub found-low : (m i n : ℕ) {f : ℕ} → f ≡ pick (leb 8 m) (lesser i n) n → (f ≤ n) × (8 ≤ m → f ≤ i)
-found-low m i n {f} e =
-    let w = lesser-within i n in
-    ⊎-elim
-    (λ (l : m < 8). let x : f ≡ n = e ∙ rw (lt-leb 8 m l) in (omega arith, λ h. absurd (omega arith)))
-    (λ (l : 8 ≤ m). let x : f ≡ lesser i n = e ∙ rw (le-leb 8 m l) in (omega (arith, x, w), λ h. omega (arith, x, w)))
-    (below-or m 8)
+    pub claim-made : g .part < 8 → given g (partsIn p) os ≡ going (partsIn us) vs (g .next)
+    claim-made m = let d : g .part % 8 ≡ g .part = omega arith in gives us (a .parts met ∙ ap (set (partsIn p) (g .row)) d)
 
-pub found-here : (m i n : ℕ) {f : ℕ} → 8 ≤ m → f ≡ lesser i n → f ≡ pick (leb 8 m) (lesser i n) n
-found-here m i n l e = rw (le-leb 8 m l) e
+    -- and the mark
+    module _ (l : g .row < length p) (m : g .part ≤ 14) {qs ws : List ℕ} {w v : Waiting} (k : Marks qs us ws g w v) where
+      given-part : getD (partsIn us) (g .row) 0 ≡ g .part % 8
+      given-part = ap (λ (ks : List ℕ). getD ks (g .row) 0) (a .parts met)
+          ∙ getD-set-same (partsIn p) (g .row) (g .part % 8) 0 (omega (arith, parts-size p))
 
-pub found-none : (m i n : ℕ) → m < 8 → _≡_ {A = ℕ} n (pick (leb 8 m) (lesser i n) n)
-found-none m i n l = rw (lt-leb 8 m l)
+      pub claim-marked : given g (partsIn p) os ≡ going (partsIn ws) vs (g .next)
+      claim-marked =
+          ⊎-elim
+          (λ (o : g .part < 8). rw (k .rests o .0) (claim-made o))
+          (λ (o : 8 ≤ g .part).
+          let d : getD (partsIn us) (g .row) 0 % 8 + 8 ≡ g .part = omega (arith, given-part) in
+          gives ws (k .marked o ∙ (λ j. set (a .parts met j) (g .row) (d j)) ∙ set-set (partsIn p) (g .row) (g .part % 8) (g .part)))
+          (below-or (g .part) 8)
 
-pub told-row : (ps us : List ℕ) {r : Listed} {at row : ℕ} → r ≡ Next at row → NoOther ps us r
-    → (row < length us) × ((i : ℕ) → (i ≡ row → ⊥) → 8 ≤ getD us i 0 → 8 ≤ getD ps i 0)
-unfolding NoOther
-told-row ps us e h = rw e at h
+      pub mark-kept : Keeps qs p w → length us ≡ length p → Keeps qs ws v
+      mark-kept i n =
+          ⊎-elim
+          (λ (o : g .part < 8). let e = k .rests o in rw (e .0, e .1) (claim-kept i))
+          (λ (o : 8 ≤ g .part). k .kept o (claim-kept i) (omega (arith, n)) (omega (arith, given-part, part-at us (g .row))))
+          (below-or (g .part) 8)
 
 -- while copies are listed: what is left decides
-pub record Copying (s qs : List ℕ) (d seek end count : ℕ) (ps os : List ℕ) (from left : ℕ) (us vs : List ℕ) (at low : ℕ) : Type 0 where
-  pub run : copies s qs d seek end count ps os from ≡ copies s qs d seek end left us vs at
-  pub parts : length us ≡ length ps
-  pub owners : length vs ≡ length os
-  pub quiet : Below ps us low
+pub record Copying (s qs : List ℕ) (l : Span) (count from : ℕ) (ps os : List ℕ) (left at : ℕ) (p vs : List ℕ) (w : Waiting) : Type 0 where
+  pub run : copiesStep s qs l count from ps os ≡ copiesStep s qs l left at (partsIn p) vs
+  pub tables : Tables qs p vs w
 
-pub began : (s qs : List ℕ) (d seek end count : ℕ) (ps os : List ℕ) (from low : ℕ)
-    → Copying s qs d seek end count ps os from count ps os from low
-began s qs d seek end count ps os from low = record { run = refl; parts = refl; owners = refl; quiet = λ i l h. h }
+pub began : (s : List ℕ) {qs : List ℕ} (l : Span) (count from : ℕ) {p os : List ℕ} {w : Waiting} → Tables qs p os w
+    → Copying s qs l count from (partsIn p) os count from p os w
+began s l count from t = record { run = refl; tables = t }
 
-module _ {s qs : List ℕ} {d seek end count : ℕ} {ps os : List ℕ} {from left : ℕ} {us vs : List ℕ} {at low : ℕ}
-    (w : Copying s qs d seek end count ps os from left us vs at low) where
-  one-left : 0 < left → copies s qs d seek end count ps os from ≡ andThen (copies s qs d seek end (left - 1)) (copyTurn s qs d seek end us vs at)
+module _ {s qs : List ℕ} {l : Span} {count from : ℕ} {ps os : List ℕ} {left at : ℕ} {p vs : List ℕ} {w : Waiting}
+    (c : Copying s qs l count from ps os left at p vs w) where
+  pub all-copied : left ≡ 0 → Went qs (copiesStep s qs l count from ps os) (Next at w) p vs
   unfolding copies
-  one-left l =
-      let e : left ≡ suc (left - 1) = omega arith in
-      w .run ∙ ap (λ (n : ℕ). copies s qs d seek end n us vs at) e
+  all-copied e = went qs p vs at w (c .run ∙ ap (λ (n : ℕ). copiesStep s qs l n at (partsIn p) vs) e) (c .tables .waiting)
 
-  pub copied : 0 < left → (r : Listed) (us′ vs′ : List ℕ) (low′ : ℕ) {next row : ℕ} → r ≡ Next next row
-      → Ran (copyTurn s qs d seek end us vs at) r us′ vs′ × NoOther us us′ r → length us′ ≡ length us → length vs′ ≡ length vs
-      → low′ ≤ low → (8 ≤ getD us′ row 0 → low′ ≤ row) → Copying s qs d seek end count ps os from (left - 1) us′ vs′ next low′
-  copied l r us′ vs′ low′ {next} {row} e h m n k o =
-      let f = next-is (copyTurn s qs d seek end us vs at) us′ vs′ next row (rw e at (h .0)) in
-      let g = told-row us us′ e (h .1) in
-      record {
-        run = one-left l ∙ ap (andThen (copies s qs d seek end (left - 1))) f;
-        parts = m ∙ w .parts;
-        owners = n ∙ w .owners;
-        quiet = λ i z y. ⊎-elim
-            (λ (q : i ≡ row). absurd (omega (arith, o (subst (λ (j : ℕ). 8 ≤ getD us′ j 0) q y))))
-            (λ (q : i ≡ row → ⊥). w .quiet i (omega arith) (g .1 i q y))
-            (same? i row);
-      }
+  module _ (o : 0 < left) {x : Entry} (t : Tests s qs l at x) where
+    -- the rest, from what the test gave
+    by-test : {y : Turn} → entryStep x (partsIn p) vs ≡ y
+        → copiesStep s qs l count from ps os ≡ andThen (copies s qs (l .dir) (l .seek) (l .end) (left - 1)) y
+    unfolding copies
+    by-test e =
+        let f : left ≡ suc (left - 1) = omega arith in
+        c .run ∙ ap (λ (n : ℕ). copiesStep s qs l n at (partsIn p) vs) f
+        ∙ ap (andThen (copies s qs (l .dir) (l .seek) (l .end) (left - 1))) (t .step (c .tables .sized .rising) (partsIn p) vs ∙ e)
 
-  pub cut-short : 0 < left → (r : Listed) (us′ vs′ : List ℕ) {n p : ℕ} → r ≡ Fault n p → Ran (copyTurn s qs d seek end us vs at) r us′ vs′
-      → Ran (copies s qs d seek end count ps os from) r us′ vs′ × NoneBelow ps us′ r
-  cut-short l r us′ vs′ {n} {p} e h =
-      let f = fault-is (copyTurn s qs d seek end us vs at) us′ vs′ n p (rw e at h) in
-      rw e (faulted ps us′ vs′ n p (one-left l ∙ ap (andThen (copies s qs d seek end (left - 1))) f))
+    as-test : {y : Entry} → x ≡ y → entryStep x (partsIn p) vs ≡ entryStep y (partsIn p) vs
+    as-test e = ap (λ (z : Entry). entryStep z (partsIn p) vs) e
 
-  pub all-copied : left ≡ 0 → Ran (copies s qs d seek end count ps os from) (Next at low) us vs × NoneBelow ps us (Next at low)
-  unfolding copies
-  all-copied e =
-      (ran-next us vs at low (w .run ∙ ap (λ (n : ℕ). copies s qs d seek end n us vs at) e), quiet-next ps us at low (w .quiet))
+    pub test-stopped : (us ws : List ℕ) {n q : ℕ} → x ≡ entry.Fault n q → Went qs (copiesStep s qs l count from ps os) (Fault n q) us ws
+    test-stopped us ws {n} {q} e = faulted qs us ws n q (by-test (as-test e))
+
+    module _ {g : Claim} (e : x ≡ entry.Fits g) where
+      pub claim-ready : (g .row < length p) × (length vs ≡ length p)
+      claim-ready = let z = c .tables .sized in (omega (arith, t .row g e, z .parts), z .owners ∙ sym (z .parts))
+
+      module _ {us ws : List ℕ} {b : Bool} (a : Assigns p vs us ws g b) where
+        pub claim-stopped : (xs ys : List ℕ) → not b ≡ true → Went qs (copiesStep s qs l count from ps os) (Fault 14 (g .place)) xs ys
+        claim-stopped xs ys h = faulted qs xs ys 14 (g .place) (by-test (as-test e ∙ claim-late a h))
+
+        pub copied : not b ≡ false → {xs : List ℕ} {v : Waiting} → Marks qs us xs g w v → length us ≡ length p → length xs ≡ length us
+            → length ws ≡ length vs → Copying s qs l count from ps os (left - 1) (g .next) xs ws v
+        copied h k m n o =
+            let r = claim-ready .0 in
+            record {
+              run = by-test (as-test e ∙ claim-marked a h r (t .part g e) k);
+              tables = record {
+                sized = sized-kept (c .tables .sized) (n ∙ m) o;
+                waiting = mark-kept a h r (t .part g e) k (c .tables .waiting) m;
+              };
+            }

@@ -4,7 +4,7 @@ use mathlib.Core.Bool.{Bool, true, false, not}
 use mathlib.Core.List.{List}
 use mathlib.Core.Path.{_≡_, refl, sym, ap, _∙_, subst}
 use lib.Dec.{T}
-use lib.ListN.{length, replicate, length-map, length-replicate}
+use lib.ListN.{length, length-replicate}
 use native.Mathlib.Omega.{arith}
 use Rattle.directory.specs.Dir.{headIn}
 use Rattle.directory.specs.declared.Dir.the-variants as dir
@@ -13,24 +13,23 @@ use Rattle.fileheader.specs.declared.FileHead.{FileHead}
 use Rattle.table.specs.Table.{cleared}
 use Rattle.rules.specs.Free.{freeHolds, infoHolds}
 use Rattle.rules.specs.Order.{ruled}
-use Rattle.rules.specs.Turn.{firstPart, firstParts, rounds}
-use Rattle.audit.specs.Listing.{Ran, Tables}
+use Rattle.rules.specs.Turn.{firstParts, rounds}
+use Rattle.waiting.specs.Waiting.{Keeps}
+use Rattle.waiting.specs.declared.Waiting.{Waiting}
+use Rattle.audit.specs.Listing.{zeros, Ran, Sized, Tables}
 use Rattle.audit.specs.declared.keys.Listed.{Listed}
 use Rattle.audit.specs.declared.keys.Listed.the-variants.{Fault}
 
--- owners that were cleared, and the three tables then
-pub no-owners : {start part owner os : List ℕ} → Tables start part owner → os ≡ cleared owner 0
-    → os ≡ replicate (length start) 0
-no-owners {start} {part} {owner} t e =
-    let k : length owner - 0 ≡ length start = omega (arith, t .owners) in
-    e ∙ ap (λ (m : ℕ). replicate m 0) k
+-- a table that was cleared
+pub all-zeros : (n : ℕ) (t : List ℕ) {u : List ℕ} → length t ≡ n → u ≡ cleared t 0 → u ≡ zeros n
+all-zeros n t e f = let k : length t - 0 ≡ n = omega arith in f ∙ ap zeros k
 
-pub ready : (s : List ℕ) (h : FileHead) {start part owner ps os : List ℕ} → Tables start part owner → ps ≡ firstParts s h start
-    → os ≡ cleared owner 0 → Tables start ps os
-ready s h {start} {part} {owner} {ps} {os} t e f = record {
-  rising = t .rising;
-  parts = ap length e ∙ length-map start (firstPart s h);
-  owners = ap length (no-owners t f) ∙ length-replicate (length start) 0;
+-- the three tables when the first parts are given
+pub ready : {start part owner ps os : List ℕ} {w : Waiting} → Sized start part owner → length ps ≡ length part → os ≡ zeros (length start)
+    → Keeps start ps w → Tables start ps os w
+ready {start} t e f k = record {
+  sized = record { rising = t .rising; parts = e ∙ t .parts; owners = ap length f ∙ length-replicate {A = ℕ} (length start) 0 };
+  waiting = k;
 }
 
 -- behind a `!`
@@ -53,7 +52,7 @@ module _ (s : List ℕ) (h : FileHead) (qs us vs : List ℕ) where
       unfolding ruled Ran
       no-info i g = rw (sym e, f, refused _ _ i g) (refl, refl)
 
-      pub go-on : (r : Listed) (ps os : List ℕ) → infoHolds s qs h ≡ true → ps ≡ firstParts s h qs → os ≡ replicate (length qs) 0
+      pub go-on : (r : Listed) (ps os : List ℕ) → infoHolds s qs h ≡ true → ps ≡ firstParts s h qs → os ≡ zeros (length qs)
           → Ran (rounds s h qs (length qs) ps os 0) r us vs → Ran (ruled s h qs) r us vs
       unfolding ruled
       go-on r ps os g i j k = rw (sym e, f, g, sym i, sym j) k

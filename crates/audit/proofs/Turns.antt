@@ -1,36 +1,36 @@
 -- A directory's keys list, its turn, and the directories one after the other.
-use Prim.Native.Nat.{ℕ, zero, suc, _+_, _-_, _<_, _≤_}
-use mathlib.Core.Bool.{Bool, true, false}
-use mathlib.Core.List.{List, [], _∷_}
-use mathlib.Core.Logic.{⊎-elim}
+use Prim.Native.Nat.{ℕ, zero, suc, _+_, _-_, _%_, _<_, _≤_}
+use mathlib.Core.Bool.{Bool, true, false, not}
+use mathlib.Core.List.{List}
 use mathlib.Core.Path.{_≡_, refl, sym, ap, _∙_}
-use native.Mathlib.Nat.{eq-or-lt-of-le, zero-add, suc-add}
 use native.Mathlib.Omega.{arith}
-use borrow.Author.Tests.{eq-eqb, ne-eqb, eqb-true, eqb-false, le-leb, lt-leb}
-use lib.Dec.{eqb}
-use lib.ListN.{length, getD, set, take, drop, length-set, length-drop}
-use lib.Seq.{getD-set-same, getD-set-other, take-all}
-use Rattle.wire.specs.Number.{numAt, lesser}
-use Rattle.wire.proofs.Checks.{below-or}
-use Rattle.wire.proofs.Numbers.{lesser-within}
+use borrow.Author.Tests.{eq-eqb, ne-eqb, le-leb, lt-leb}
+use lib.ListN.{length, getD, set}
+use Rattle.wire.specs.Number.{numAt}
 use Rattle.directory.specs.Dir.{headIn, subIn, dirOf}
 use Rattle.directory.specs.declared.Dir.{Dir}
 use Rattle.directory.specs.declared.Dir.the-variants as dir
 use Rattle.directory.specs.declared.DirHead.{DirHead}
 use Rattle.fileheader.specs.declared.FileHead.{FileHead}
 use Rattle.rules.specs.Turn.{Turn, going, stop, andThen, copies, ended, dataTurn, keysTurn, onDir, dirTurn, settle, roundTurn}
-use Rattle.rules.specs.Turn.{nextRow, rounds}
-use Rattle.rules.proofs.Rows.{next-row-at, next-row-none, next-row, rounds-over, rounds-more}
-use Rattle.rules.proofs.Runs.{gave}
+use Rattle.rules.specs.Turn.{rounds}
+use Rattle.rules.proofs.Counts.{count, count-most, count-some, grew, fewer}
+use Rattle.rules.proofs.Rows.{rounds-over, rounds-more}
+use Rattle.rules.proofs.Runs.{and-then, dir-went}
 use Rattle.rows.specs.Row.{Rises}
 use Rattle.copies.specs.Copy.{given, keysStep, Finds}
 use Rattle.copies.specs.declared.Claim.{Claim}
 use Rattle.copies.specs.declared.Keys.{Keys}
 use Rattle.copies.specs.declared.Keys.the-variants as keys
-use Rattle.audit.specs.Listing.{Ran, NoneBelow, Done, DoneTo, Tables}
+use Rattle.waiting.specs.Waiting.{partsIn, Keeps}
+use Rattle.waiting.specs.declared.Waiting.{Waiting}
+use Rattle.waiting.proofs.Trees.{part-at, parts-size}
+use Rattle.waiting.proofs.Keeping.{none-waits, one-waits, over}
+use Rattle.audit.specs.Listing.{Tables, Ran, Went, Assigns}
 use Rattle.audit.specs.declared.keys.Listed.{Listed}
 use Rattle.audit.specs.declared.keys.Listed.the-variants.{Next, Fault}
-use Rattle.audit.proofs.Listings.{ran-next, ran-fault, next-is, fault-is, quiet-next, from-quiet, faulted, tables-kept, Below}
+use Rattle.audit.proofs.Listings.{ran-fault, went, faulted, next-is, fault-is, told-is, stays-stopped, sized-kept}
+use Rattle.audit.proofs.Listings.{claim-late, claim-made}
 
 -- the data of a keys list
 module _ (s qs : List ℕ) (d seek a end : ℕ) (ps os : List ℕ) (c : ℕ) where
@@ -39,75 +39,49 @@ module _ (s qs : List ℕ) (d seek a end : ℕ) (ps os : List ℕ) (c : ℕ) whe
   data-short l = rw (lt-leb (a + 4) end l)
 
   module _ (l : a + 4 ≤ end) {n : ℕ} (e : n ≡ numAt 4 s a) where
-    by-copies : dataTurn s qs d seek a end ps os c ≡ andThen (ended seek end) (copies s qs d seek end n ps os c)
+    by-copies : {y : Turn} → copies s qs d seek end n ps os c ≡ y → dataTurn s qs d seek a end ps os c ≡ andThen (ended seek end) y
     unfolding dataTurn
-    by-copies = rw (le-leb (a + 4) end l, e)
+    by-copies f = rw (le-leb (a + 4) end l, ← e) (ap (andThen (ended seek end)) f)
 
-    module _ (r : Listed) (us vs : List ℕ) (h : Ran (copies s qs d seek end n ps os c) r us vs × NoneBelow ps us r) where
-      pub data-fault : {m p : ℕ} → r ≡ Fault m p → Ran (dataTurn s qs d seek a end ps os c) r us vs × NoneBelow ps us r
-      data-fault {m} {p} f =
-          let g = fault-is (copies s qs d seek end n ps os c) us vs m p (rw f at (h .0)) in
-          rw f (faulted ps us vs m p (by-copies ∙ ap (andThen (ended seek end)) g))
+    module _ (r : Listed) (us vs : List ℕ) (h : Went qs (copies s qs d seek end n ps os c) r us vs) where
+      pub data-fault : {m p : ℕ} → r ≡ Fault m p → Went qs (dataTurn s qs d seek a end ps os c) r us vs
+      data-fault f = stays-stopped qs us vs r f (h .0) by-copies
 
-      module _ {at low : ℕ} (f : r ≡ Next at low) where
-        at-end : dataTurn s qs d seek a end ps os c ≡ ended seek end us vs at
-        at-end = by-copies ∙ ap (andThen (ended seek end)) (next-is (copies s qs d seek end n ps os c) us vs at low (rw f at (h .0)))
+      module _ {at : ℕ} {w : Waiting} (f : r ≡ Next at w) where
+        at-end : dataTurn s qs d seek a end ps os c ≡ ended seek end (partsIn us) vs at
+        at-end = by-copies (next-is (copies s qs d seek end n ps os c) (partsIn us) vs f (h .0))
 
-        pub data-left : (at ≡ end → ⊥) → Ran (dataTurn s qs d seek a end ps os c) (Fault 12 seek) us vs × NoneBelow ps us (Fault 12 seek)
-        data-left z = faulted ps us vs 12 seek (at-end ∙ rw (ne-eqb at end z))
+        pub data-left : (at ≡ end → ⊥) → Went qs (dataTurn s qs d seek a end ps os c) (Fault 12 seek) us vs
+        data-left z = faulted qs us vs 12 seek (at-end ∙ rw (ne-eqb at end z))
 
-        pub data-ended : at ≡ end → Ran (dataTurn s qs d seek a end ps os c) (Next at low) us vs × NoneBelow ps us (Next at low)
-        data-ended z = (ran-next us vs at low (at-end ∙ rw (eq-eqb at end z)), rw f at (h .1))
-
--- a row that was given part 4 holds no directory
-below-set : (ps us : List ℕ) (i low : ℕ) → i < length ps → Below (set ps i 4) us low → Below ps us low
-below-set ps us i low l b j k h = go (eqb j i) refl
-  where
-    go : (t : Bool) → eqb j i ≡ t → 8 ≤ getD ps j 0
-    go true e = absurd (omega (arith, b j k h, getD-set-same ps i 4 0 l, ap (λ (n : ℕ). getD (set ps i 4) n 0) (eqb-true j i e)))
-    go false e = rw (getD-set-other ps i j 4 0 (eqb-false j i e)) at (b j k h)
-
-quiet-set : (ps us : List ℕ) (i : ℕ) (r : Listed) → i < length ps → NoneBelow (set ps i 4) us r → NoneBelow ps us r
-unfolding NoneBelow
-quiet-set ps us i (Next at low) l h = below-set ps us i low l h
-quiet-set ps us i (Fault n p) l h = tt
+        pub data-ended : at ≡ end → Went qs (dataTurn s qs d seek a end ps os c) (Next at w) us vs
+        data-ended z = went qs us vs at w (at-end ∙ rw (eq-eqb at end z)) (told-is qs us f (h .1))
 
 -- the keys list, from what was found
-module _ {s qs : List ℕ} {d : ℕ} {dh : DirHead} {x : Keys} (h : Finds s qs d dh x) (up : Rises qs) (ps os : List ℕ) where
-  keys-are : {y : Keys} → x ≡ y → keysTurn s qs d dh ps os ≡ keysStep s qs d (dh .seekkeys) y ps os
-  keys-are e = h .step up ps os ∙ ap (λ (y : Keys). keysStep s qs d (dh .seekkeys) y ps os) e
+module _ {s qs : List ℕ} {d : ℕ} {dh : DirHead} {x : Keys} (h : Finds s qs d dh x) (up : Rises qs) (p os : List ℕ) where
+  keys-are : {y : Keys} → x ≡ y → keysTurn s qs d dh (partsIn p) os ≡ keysStep s qs d (dh .seekkeys) y (partsIn p) os
+  keys-are e = h .step up (partsIn p) os ∙ ap (λ (y : Keys). keysStep s qs d (dh .seekkeys) y (partsIn p) os) e
 
-  pub keys-none : (low : ℕ) → x ≡ keys.Nothing → Ran (keysTurn s qs d dh ps os) (Next 0 low) ps os × NoneBelow ps ps (Next 0 low)
-  keys-none low e = (ran-next ps os 0 low (keys-are e), quiet-next ps ps 0 low (λ i l y. y))
+  pub keys-none : {w : Waiting} → Keeps qs p w → x ≡ keys.Nothing → Went qs (keysTurn s qs d dh (partsIn p) os) (Next 0 w) p os
+  keys-none {w} k e = went qs p os 0 w (keys-are e) k
 
-  module _ (us vs : List ℕ) where
-    pub keys-stops : {n p : ℕ} → x ≡ keys.Fault n p → Ran (keysTurn s qs d dh ps os) (Fault n p) us vs × NoneBelow ps us (Fault n p)
-    keys-stops {n} {p} e = faulted ps us vs n p (keys-are e)
+  pub keys-stops : (us vs : List ℕ) {n q : ℕ} → x ≡ keys.Fault n q → Went qs (keysTurn s qs d dh (partsIn p) os) (Fault n q) us vs
+  keys-stops us vs {n} {q} e = faulted qs us vs n q (keys-are e)
 
-    module _ {g : Claim} {a end : ℕ} (f : x ≡ keys.Held g a end) (r : Listed) (j : Ran (given g ps os) r us vs) where
-      by-given : {t : Turn} → given g ps os ≡ t → keysTurn s qs d dh ps os ≡ andThen (dataTurn s qs d (dh .seekkeys) a end) t
-      by-given e = keys-are f ∙ ap (andThen (dataTurn s qs d (dh .seekkeys) a end)) e
+  module _ {g : Claim} {a end : ℕ} (f : x ≡ keys.Held g a end) where
+    by-given : {t : Turn} → given g (partsIn p) os ≡ t → keysTurn s qs d dh (partsIn p) os ≡ andThen (dataTurn s qs d (dh .seekkeys) a end) t
+    by-given e = keys-are f ∙ ap (andThen (dataTurn s qs d (dh .seekkeys) a end)) e
 
-      pub keys-late : {n p : ℕ} → r ≡ Fault n p → Ran (keysTurn s qs d dh ps os) r us vs × NoneBelow ps us r
-      keys-late {n} {p} e = rw e (faulted ps us vs n p (by-given (fault-is (given g ps os) us vs n p (rw e at j))))
+    module _ {us vs : List ℕ} {b : Bool} (c : Assigns p os us vs g b) (us′ vs′ : List ℕ) where
+      pub keys-late : not b ≡ true → Went qs (keysTurn s qs d dh (partsIn p) os) (Fault 14 (g .place)) us′ vs′
+      keys-late l = faulted qs us′ vs′ 14 (g .place) (by-given (claim-late c l))
 
-      module _ {at low : ℕ} (e : r ≡ Next at low) where
-        gone : given g ps os ≡ going us vs at
-        gone = next-is (given g ps os) us vs at low (rw e at j)
-
-        made : (us ≡ set ps (g .row) 4) × (at ≡ a + 4)
-        made =
-            let k = h .held g a end f in
-            let z = gave (g .row) (g .part) (g .dir) (g .next) (g .place) ps os gone in
-            (z .1 .0 ∙ ap (set ps (g .row)) (k .part), z .1 .1 .1 ∙ k .next)
-
-        pub keys-ran : g .row < length ps → (us′ vs′ : List ℕ) (q : Listed)
-            → Ran (dataTurn s qs d (dh .seekkeys) a end us vs (a + 4)) q us′ vs′ × NoneBelow us us′ q
-            → Ran (keysTurn s qs d dh ps os) q us′ vs′ × NoneBelow ps us′ q
-        keys-ran l us′ vs′ q m = (
-          rw (by-given gone ∙ ap (dataTurn s qs d (dh .seekkeys) a end us vs) (made .1)) (m .0),
-          quiet-set ps us′ (g .row) q l (rw (made .0) at (m .1)),
-        )
+      pub keys-ran : not b ≡ false → (r : Listed) → Went qs (dataTurn s qs d (dh .seekkeys) a end (partsIn us) vs (a + 4)) r us′ vs′
+          → Went qs (keysTurn s qs d dh (partsIn p) os) r us′ vs′
+      keys-ran l r m =
+          let k = h .held g a end f in
+          let e = by-given (claim-made c l (omega (arith, k .part))) ∙ ap (dataTurn s qs d (dh .seekkeys) a end (partsIn us) vs) (k .next) in
+          (rw e (m .0), m .1)
 
 -- the header of the directory at a place
 module _ (s : List ℕ) (h : FileHead) (p parent : ℕ) where
@@ -119,130 +93,128 @@ module _ (s : List ℕ) (h : FileHead) (p parent : ℕ) where
   unfolding dirOf
   sub-dir z f = rw (ne-eqb p 100 z) f
 
--- the directory in a row
-module _ (s : List ℕ) (h : FileHead) (qs : List ℕ) (row : ℕ) (ps os : List ℕ) where
-  pub dir-bad : dir.Bad ≡ dirOf s h (getD qs row 0) (getD os row 0) → dirTurn s h qs row ps os ≡ stop 11 (getD qs row 0)
+-- the lowest directory
+module _ (s : List ℕ) (h : FileHead) {qs p os : List ℕ} {w : Waiting} (t : Tables qs p os w) where
+  place-is : w .place ≡ getD qs (w .row) 0
+  place-is = t .waiting .place ∙ ap (λ (i : ℕ). getD qs i 0) (sym (t .waiting .row))
+
+  by-header : {x : Dir} → x ≡ dirOf s h (w .place) (getD os (w .row) 0)
+      → dirTurn s h qs (w .row) (partsIn p) os ≡ onDir s qs (w .place) (partsIn p) os x
   unfolding dirTurn
-  dir-bad f = ap (onDir s qs (getD qs row 0) ps os) (sym f)
+  by-header e =
+      ap (λ (q : ℕ). onDir s qs q (partsIn p) os (dirOf s h q (getD os (w .row) 0))) (sym place-is)
+      ∙ ap (onDir s qs (w .place) (partsIn p) os) (sym e)
 
-  pub dir-held : {dh : DirHead} (r : Listed) (us vs : List ℕ) → dir.Held dh ≡ dirOf s h (getD qs row 0) (getD os row 0)
-      → Ran (keysTurn s qs (getD qs row 0) dh ps os) r us vs × NoneBelow ps us r → Ran (dirTurn s h qs row ps os) r us vs × NoneBelow ps us r
-  unfolding dirTurn
-  dir-held r us vs f g = (rw (ap (onDir s qs (getD qs row 0) ps os) (sym f)) (g .0), g .1)
+  module _ (us vs : List ℕ) where
+    pub dir-bad : dir.Bad ≡ dirOf s h (w .place) (getD os (w .row) 0)
+        → Went qs (dirTurn s h qs (w .row) (partsIn p) os) (Fault 11 (w .place)) us vs
+    dir-bad e = faulted qs us vs 11 (w .place) (by-header e)
 
--- the rows before one are done
-pub done-more : (ps : List ℕ) (i : ℕ) → Done ps i → i < length ps → getD ps i 0 < 8 → Done ps (i + 1)
-done-more ps i d l h =
-    (omega arith, λ j k. ⊎-elim (λ (e : j ≡ i). rw e h) (λ (m : j < i). d .1 j m) (eq-or-lt-of-le (omega arith)))
-
-pub first-left : (ps : List ℕ) (i : ℕ) → Done ps i → i < length ps → 8 ≤ getD ps i 0 → i ≡ nextRow ps
-first-left ps i d l h = sym (next-row-at ps i l h (d .1))
-
-pub none-left : (ps : List ℕ) (i : ℕ) → Done ps i → length ps ≤ i → i ≡ nextRow ps
-none-left ps i d l = let e : i ≡ length ps = omega (arith, d .0) in e ∙ sym (next-row-none ps (λ j k. d .1 j (omega arith)))
-
--- looked for from a row on
-pub next-drop : (ps : List ℕ) (from : ℕ) → Done ps from → from + nextRow (drop from ps) ≡ nextRow ps
-unfolding nextRow
-next-drop ps zero d = zero-add _
-next-drop [] (suc f) d = absurd (omega (arith, d .0))
-next-drop (k ∷ ps) (suc f) d =
-    rw (lt-leb 8 k (d .1 0 (omega arith)), ← (next-drop ps f (omega (arith, d .0), λ i l. d .1 (suc i) (omega arith))))
-    (suc-add f (nextRow (drop f ps)))
-
-pub next-part : (ps : List ℕ) (from : ℕ) {r : ℕ} → Done ps from → r ≡ nextRow (take (length ps - from) (drop from ps))
-    → (from + r ≡ nextRow ps) × (from + r ≤ length ps)
-next-part ps from {r} d e =
-    let a = take-all (length ps - from) (drop from ps) (rw length-drop (omega arith)) in
-    let n : from + r ≡ nextRow ps = ap (λ (k : ℕ). from + k) (e ∙ ap nextRow a) ∙ next-drop ps from d in
-    (n, omega (arith, n, next-row ps .within))
+    pub dir-held : {dh : DirHead} (r : Listed) → dir.Held dh ≡ dirOf s h (w .place) (getD os (w .row) 0)
+        → Went qs (keysTurn s qs (w .place) dh (partsIn p) os) r us vs → Went qs (dirTurn s h qs (w .row) (partsIn p) os) r us vs
+    dir-held r e g = (rw (by-header e) (g .0), g .1)
 
 -- a directory that is done
-module _ (s : List ℕ) (h : FileHead) (qs : List ℕ) (row : ℕ) (ps os : List ℕ) (r : Listed) (us vs : List ℕ)
-    (g : Ran (dirTurn s h qs row ps os) r us vs × NoneBelow ps us r) where
-  pub round-fault : {n p : ℕ} → r ≡ Fault n p → Ran (roundTurn s h qs row ps os) r us vs × DoneTo us r
-  unfolding DoneTo roundTurn
-  round-fault {n} {p} e =
-      let f = fault-is (dirTurn s h qs row ps os) us vs n p (rw e at (g .0)) in
-      rw e (ran-fault us vs n p (ap (andThen (settle row (getD ps row 0 - 8))) f), tt)
+module _ (s : List ℕ) (h : FileHead) {qs p os : List ℕ} {w : Waiting} (t : Tables qs p os w) (o : 0 < w .number) (r : Listed) (us vs : List ℕ)
+    (g : Went qs (dirTurn s h qs (w .row) (partsIn p) os) r us vs) where
+  pub round-fault : {n q : ℕ} → r ≡ Fault n q → Went qs (roundTurn s h qs (w .row) (partsIn p) os) r us vs
+  unfolding roundTurn
+  round-fault e = stays-stopped qs us vs r e (g .0) (ap (andThen (settle (w .row) (getD (partsIn p) (w .row) 0 - 8))))
 
-  pub round-done : {at low m : ℕ} → r ≡ Next at low → (least : ℕ) → least ≡ lesser row low → m ≡ getD ps row 0 - 8 → Done ps row
-      → length ps ≡ length qs → row < length qs → length us ≡ length ps
-      → Ran (roundTurn s h qs row ps os) (Next at least) (set us row m) vs × DoneTo (set us row m) (Next at least)
-  unfolding DoneTo roundTurn
-  round-done {at} {low} {m} e least w f d z l k =
-      let x = next-is (dirTurn s h qs row ps os) us vs at low (rw e at (g .0)) in
-      let y = from-quiet ps us at low (rw e at (g .1)) in
-      let size = length-set us row m in
-      let o = lesser-within row low in (
-        ran-next (set us row m) vs at least (ap (andThen (settle row (getD ps row 0 - 8))) x ∙ rw f refl),
-        (
-          omega (arith, w, o),
-          λ i j. rw (getD-set-other us row i m 0 (λ n. omega (arith, w, o)))
-              (⊎-elim (λ (v : getD us i 0 < 8). v)
-              (λ (v : 8 ≤ getD us i 0). absurd (omega (arith, y i (omega (arith, w, o)) v, d .1 i (omega (arith, w, o)))))
-              (below-or (getD us i 0) 8)),
-        ),
-      )
+  module _ {at : ℕ} {v : Waiting} (e : r ≡ Next at v) where
+    listed : dirTurn s h qs (w .row) (partsIn p) os ≡ going (partsIn us) vs at
+    listed = next-is (dirTurn s h qs (w .row) (partsIn p) os) (partsIn us) vs e (g .0)
 
--- while directories are taken: what is left decides
-pub record Rounding (s : List ℕ) (h : FileHead) (qs : List ℕ) (n : ℕ) (ps os : List ℕ) (left : ℕ) (us vs : List ℕ) (at low : ℕ) : Type 0 where
-  pub run : rounds s h qs n ps os 0 ≡ rounds s h qs left us vs at
-  pub parts : length us ≡ length ps
-  pub owners : length vs ≡ length os
-  pub done : Done us low
+    -- its own row is as it was
+    same : getD (partsIn us) (w .row) 0 ≡ getD (partsIn p) (w .row) 0
+    same =
+        let a = dir-went s qs h (w .row) (partsIn p) os (partsIn us) vs at listed in
+        grew (getD qs (w .row) 0) (a .0) (partsIn p) os (partsIn us) vs (a .2) .stays (w .row)
+        (λ z. omega (arith, z, part-at p (w .row), one-waits (t .waiting) o .1))
 
-pub rounds-began : (s : List ℕ) (h : FileHead) (qs : List ℕ) (n : ℕ) (ps os : List ℕ) → Rounding s h qs n ps os n ps os 0 0
-rounds-began s h qs n ps os =
-    record { run = refl; parts = refl; owners = refl; done = (omega arith, λ i l. absurd (omega arith)) }
+    pub round-done : (ws : List ℕ) {u : Waiting} → length us ≡ length p → partsIn ws ≡ set (partsIn us) (w .row) (getD (partsIn us) (w .row) 0 % 8)
+        → (Keeps qs us v → w .row < length us → 8 ≤ getD us (w .row) 0 % 16 → Keeps qs ws u)
+        → Went qs (roundTurn s h qs (w .row) (partsIn p) os) (Next at u) ws vs
+    unfolding roundTurn
+    round-done ws {u} m f k =
+        let y = one-waits (t .waiting) o in
+        let x = part-at us (w .row) in
+        let z = part-at p (w .row) in
+        let d : getD (partsIn us) (w .row) 0 % 8 ≡ getD (partsIn p) (w .row) 0 - 8 = omega (arith, same, z, y .1) in
+        let n : partsIn ws ≡ set (partsIn us) (w .row) (getD (partsIn p) (w .row) 0 - 8) = f ∙ ap (set (partsIn us) (w .row)) d in
+        went qs ws vs at u (ap (andThen (settle (w .row) (getD (partsIn p) (w .row) 0 - 8))) listed ∙ λ i. going (sym n i) vs at)
+        (k (told-is qs us e (g .1)) (omega (arith, y .0, m)) (omega (arith, same, x, z, y .1)))
 
-done-to : (us : List ℕ) (at low : ℕ) → DoneTo us (Next at low) → Done us low
-unfolding DoneTo
-done-to us at low h = h
+-- while directories are taken: what is left decides, and as many rounds as rows without a part or not done are enough
+pub record Rounding (s : List ℕ) (h : FileHead) (qs ps os p vs : List ℕ) (at : ℕ) (w : Waiting) : Type 0 where
+  pub left : ℕ
+  pub enough : count (partsIn p) ≤ left
+  pub run : rounds s h qs (length qs) ps os 0 ≡ rounds s h qs left (partsIn p) vs at
+  pub tables : Tables qs p vs w
 
-module _ {s : List ℕ} {h : FileHead} {qs : List ℕ} {n : ℕ} {ps os : List ℕ} {left : ℕ} {us vs : List ℕ} {at low : ℕ}
-    (w : Rounding s h qs n ps os left us vs at low) where
-  pub rounds-ended : left ≡ 0 → Ran (rounds s h qs n ps os 0) (Next at low) us vs
-  unfolding rounds
-  rounds-ended e = ran-next us vs at low (w .run ∙ ap (λ (k : ℕ). rounds s h qs k us vs at) e)
+pub rounds-began : (s : List ℕ) (h : FileHead) {qs p os : List ℕ} {w : Waiting} → Tables qs p os w
+    → Rounding s h qs (partsIn p) os p os 0 w
+rounds-began s h {qs} {p} t = record {
+  left = length qs;
+  enough = omega (arith, count-most (partsIn p), parts-size p, t .sized .parts);
+  run = refl;
+  tables = t;
+}
 
-  module _ (l : 0 < left) {row : ℕ} (e : row ≡ nextRow us) where
-    one-left : rounds s h qs n ps os 0 ≡ rounds s h qs (suc (left - 1)) us vs at
-    one-left = let f : left ≡ suc (left - 1) = omega arith in w .run ∙ ap (λ (k : ℕ). rounds s h qs k us vs at) f
+module _ {s : List ℕ} {h : FileHead} {qs ps os p vs : List ℕ} {at : ℕ} {w : Waiting} (c : Rounding s h qs ps os p vs at w) where
+  pub rounds-ended : w .number ≡ 0 → Ran (rounds s h qs (length qs) ps os 0) (Next at w) p vs
+  unfolding Ran rounds
+  rounds-ended e =
+      let d = rw (over (c .tables .waiting) e) at (c .run ∙ rest (c .left)) in
+      rw d (refl, (refl, refl))
+    where
+      rest : (n : ℕ) → rounds s h qs n (partsIn p) vs at ≡ going (partsIn p) vs at
+      rest zero = refl
+      rest (suc n) = rounds-over s h qs n (partsIn p) vs at (none-waits (c .tables .waiting) e)
 
-    pub rounds-rest : row ≡ length us → Ran (rounds s h qs n ps os 0) (Next at low) us vs
-    rounds-rest f = ran-next us vs at low (one-left ∙ rounds-over s h qs (left - 1) us vs at (sym e ∙ f))
+  module _ (o : 0 < w .number) where
+    -- one more, and it leaves fewer
+    heavy : 0 < count (partsIn p)
+    heavy =
+        let y = one-waits (c .tables .waiting) o in
+        count-some (partsIn p) (w .row) (omega (arith, y .0, parts-size p)) (omega (arith, y .1, part-at p (w .row)))
 
-    module _ (z : row ≡ length us → ⊥) where
-      inside : row < length us
-      inside = let i = next-row us .within in omega arith
+    by-round : {x : Turn} → roundTurn s h qs (w .row) (partsIn p) vs ≡ x
+        → rounds s h qs (length qs) ps os 0 ≡ andThen (rounds s h qs (c .left - 1)) x
+    by-round e =
+        let f : c .left ≡ suc (c .left - 1) = omega (arith, heavy, c .enough) in
+        let y = one-waits (c .tables .waiting) o in
+        c .run ∙ ap (λ (k : ℕ). rounds s h qs k (partsIn p) vs at) f
+        ∙ rounds-more s h qs (c .left - 1) (partsIn p) vs at (sym (c .tables .waiting .row)) (omega (arith, y .0, parts-size p))
+        ∙ ap (andThen (rounds s h qs (c .left - 1))) e
 
-      pub ready : Tables qs ps os → Tables qs us vs × (row < length qs) × Done us row × (8 ≤ getD us row 0)
-      ready t =
-          let x = next-row us in
-          let y : Tables qs us vs = tables-kept t (w .parts) (w .owners) in (
-            y,
-            omega (arith, inside, y .parts),
-            (omega (arith, inside), λ j k. x .before j (omega arith)),
-            rw e (x .found (omega (arith, inside))),
-          )
+    module _ (r : Listed) (us ws : List ℕ) (g : Went qs (roundTurn s h qs (w .row) (partsIn p) vs) r us ws) where
+      pub rounds-fault : {n q : ℕ} → r ≡ Fault n q → Ran (rounds s h qs (length qs) ps os 0) r us ws
+      rounds-fault {n} {q} e = rw e (ran-fault us ws n q (by-round (fault-is (roundTurn s h qs (w .row) (partsIn p) vs) (partsIn us) ws e (g .0))))
 
-      by-round : rounds s h qs n ps os 0 ≡ andThen (rounds s h qs (left - 1)) (roundTurn s h qs row us vs)
-      by-round = one-left ∙ rounds-more s h qs (left - 1) us vs at (sym e) inside
+      module _ {next : ℕ} {v : Waiting} (e : r ≡ Next next v) where
+        listed-round : roundTurn s h qs (w .row) (partsIn p) vs ≡ going (partsIn us) ws next
+        listed-round = next-is (roundTurn s h qs (w .row) (partsIn p) vs) (partsIn us) ws e (g .0)
 
-      module _ (r : Listed) (us′ vs′ : List ℕ) (g : Ran (roundTurn s h qs row us vs) r us′ vs′ × DoneTo us′ r) where
-        pub rounds-fault : {c p : ℕ} → r ≡ Fault c p → Ran (rounds s h qs n ps os 0) r us′ vs′
-        rounds-fault {c} {p} f =
-            let x = fault-is (roundTurn s h qs row us vs) us′ vs′ c p (rw f at (g .0)) in
-            rw f (ran-fault us′ vs′ c p (by-round ∙ ap (andThen (rounds s h qs (left - 1))) x))
+        pub rounds-less : count (partsIn us) < count (partsIn p)
+        unfolding roundTurn
+        rounds-less =
+            let y = and-then (settle (w .row) (getD (partsIn p) (w .row) 0 - 8)) (dirTurn s h qs (w .row) (partsIn p) vs) listed-round in
+            let a = dir-went s qs h (w .row) (partsIn p) vs (y .0) (y .1) (y .2) (y .3) in
+            let b = grew (getD qs (w .row) 0) (a .0) (partsIn p) vs (y .0) (y .1) (a .2) in
+            let k = one-waits (c .tables .waiting) o in
+            let z = part-at p (w .row) in
+            let m = b .stays (w .row) (λ i. omega (arith, i, z, k .1)) in
+            let f = fewer (getD qs (w .row) 0) (a .0) (partsIn p) vs (y .0) (y .1) (w .row) (getD (partsIn p) (w .row) 0 - 8) (a .2)
+            (omega (arith, b .size, parts-size p, k .0)) (omega (arith, m, z, k .1)) (omega (arith, z, c .tables .waiting .parts (w .row))) in
+            let x = y .4 in
+            let n : set (y .0) (w .row) (getD (partsIn p) (w .row) 0 - 8) ≡ partsIn us = cc in
+            omega (arith, f, ap count n)
 
-        pub rounds-again : {next found : ℕ} → r ≡ Next next found → length us′ ≡ length us → length vs′ ≡ length vs
-            → Rounding s h qs n ps os (left - 1) us′ vs′ next found
-        rounds-again {next} {found} f m o =
-            let x = next-is (roundTurn s h qs row us vs) us′ vs′ next found (rw f at (g .0)) in
-            record {
-              run = by-round ∙ ap (andThen (rounds s h qs (left - 1))) x;
-              parts = m ∙ w .parts;
-              owners = o ∙ w .owners;
-              done = done-to us′ next found (rw f at (g .1));
-            }
+        pub rounds-again : length us ≡ length p → length ws ≡ length vs → Rounding s h qs ps os us ws next v
+        rounds-again m n = record {
+          left = c .left - 1;
+          enough = omega (arith, c .enough, rounds-less);
+          run = by-round listed-round;
+          tables = record { sized = sized-kept (c .tables .sized) m n; waiting = told-is qs us e (g .1) };
+        }

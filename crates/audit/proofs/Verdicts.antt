@@ -19,17 +19,18 @@ use Rattle.fileheader.specs.declared.FileHead.{FileHead}
 use Rattle.fileheader.specs.declared.Opened.the-variants as opened
 use Rattle.wire.specs.Number.{lesser}
 use Rattle.table.specs.Table.{filled, cleared}
-use Rattle.rules.specs.Order.{Chain, whole, chain, ruled, Verdict, passed, refused, onTurn, onChain, onOpened, verdict, numberOf, startsOf, partsOf, ownersOf}
+use Rattle.rules.specs.Order.{Chain, chain, ruled, Verdict, passed, refused, onTurn, onChain, onOpened, verdict, numberOf, startsOf, partsOf, ownersOf}
 use Rattle.rules.specs.Partition.{Partition}
-use Rattle.rules.specs.Turn.{Turn, going, stop}
+use Rattle.rules.specs.Turn.{Turn}
 use Rattle.rules.proofs.Partitions.{rises}
 use Rattle.rules.proofs.Chains.{chain-whole, chain-fault}
 use Rattle.rules.proofs.Demands.{demand}
-use Rattle.audit.specs.Listing.{Ran, Tables}
+use Rattle.audit.specs.Listing.{Ran, Sized}
 use Rattle.audit.specs.Examined.{Answers, Begins, Filled}
 use Rattle.audit.specs.Tables.{roomOf, room, told, Audits}
 use Rattle.chain.specs.Walk.{over, Walked}
 use Rattle.chain.specs.declared.Outcome.{Outcome}
+use Rattle.waiting.specs.declared.Waiting.{Waiting}
 use Rattle.audit.specs.declared.keys.Listed.{Listed}
 use Rattle.chain.specs.declared.Outcome.the-variants as outcome
 use Rattle.audit.specs.declared.keys.Listed.the-variants.{Next, Fault}
@@ -67,13 +68,6 @@ module _ (s : List ℕ) (room : ℕ) where
 
       verdict-turn : {t : Turn} → length qs ≤ room → ruled s h qs ≡ t → verdict s room ≡ onTurn qs t
       verdict-turn l e = by-room ∙ rw (le-leb (length qs) room l, e)
-
--- a turn, from the answer
-ran-next : (t : Turn) (us vs : List ℕ) {a b : ℕ} {r : Listed} → r ≡ Next a b → Ran t r us vs → t ≡ going us vs a
-ran-next t us vs {a} {b} e k = next-is t us vs a b (subst (λ (x : Listed). Ran t x us vs) e k)
-
-ran-fault : (t : Turn) (us vs : List ℕ) {c q : ℕ} {r : Listed} → r ≡ Fault c q → Ran t r us vs → t ≡ stop c q
-ran-fault t us vs {c} {q} e k = fault-is t us vs c q (subst (λ (x : Listed). Ran t x us vs) e k)
 
 -- what is told of a refusal and of a pass
 module _ {v : Verdict} (t u w : List ℕ) where
@@ -158,7 +152,7 @@ module _ {s : List ℕ} {h : FileHead} {t u : List ℕ} {n : ℕ} (k : Entire s 
     entire-starts : take n u ≡ k .starts
     entire-starts = rw (k .table, roomy (k .starts) t (omega (arith, k .count, fit .starts))) (take-at (k .starts) _ n (sym (k .count)))
 
-    pub entire-tables : Tables (take n u) (take n v) (take n w)
+    pub entire-tables : Sized (take n u) (take n v) (take n w)
     entire-tables = record {
       rising = rw entire-starts (rises s 100 (k .starts) (length s) (k .partition));
       parts = rw (entire-starts, length-take-le n v (fit .parts)) (k .count);
@@ -170,14 +164,14 @@ module _ {s : List ℕ} {h : FileHead} {t u : List ℕ} {n : ℕ} (k : Entire s 
 
     pub entire-stops : {c q : ℕ} {r : Listed} {a : Answer} (ps os x y : List ℕ) → r ≡ Fault c q → Ran (ruled s h (take n u)) r ps os
         → a ≡ refusal c q → Examined (verdict s (roomOf t v w)) a u x y
-    entire-stops ps os x y e r g = told-fault u x y (turned (ran-fault (ruled s h (take n u)) ps os e r)) g
+    entire-stops ps os x y e r g = told-fault u x y (turned (fault-is (ruled s h (take n u)) ps os e r)) g
 
-    pub entire-passes : {a b : ℕ} {r : Listed} (ps os x y : List ℕ) → length ps ≡ length (take n v) → length os ≡ length (take n w)
+    pub entire-passes : {a : ℕ} {b : Waiting} {r : Listed} (ps os x y : List ℕ) → length ps ≡ length (take n v) → length os ≡ length (take n w)
         → r ≡ Next a b → Ran (ruled s h (take n u)) r ps os → {d : Answer} → d ≡ done n
         → Examined (verdict s (roomOf t v w)) d u (ps ++ x) (os ++ y)
     entire-passes ps os x y a b e r z =
         told-pass u (ps ++ x) (os ++ y)
-        (turned (ran-next (ruled s h (take n u)) ps os e r))
+        (turned (next-is (ruled s h (take n u)) ps os e r))
         (k .count)
         (ap (λ (m : ℕ). take m u) (sym (k .count)) ∙ entire-starts)
         (take-at ps x (length ps) refl)

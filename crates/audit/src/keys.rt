@@ -1,14 +1,10 @@
 // A directory's keys list: the list and the record of each copy are given their part and owner.
 ghost use mathlib.Core.Path.{_≡_};
 ghost use Prim.Native.Nat.{_≤_, _<_};
-ghost use lib.Dec.{leb};
 ghost use lib.ListN.{length};
-ghost use Rattle.wire.specs.Check.{pick};
 ghost use Rattle.wire.specs.Lent.{before, after};
-ghost use Rattle.wire.specs.Number.{lesser};
 ghost use Rattle.rules.specs.Turn.{keysTurn};
-ghost use Rattle.copies.specs.Copy.{given, copyStep};
-ghost use Rattle.audit.specs.Listing.{Runs, NoneBelow, NoOther, Tables, copiesStep, dataStep};
+ghost use Rattle.audit.specs.Listing.{Assigns, Marks, Runs, Tables, copiesStep, dataStep};
 use copies::Claim;
 use copies::Entry;
 use copies::Keys;
@@ -16,58 +12,39 @@ use copies::Span;
 use copies::find_list;
 use copies::test_copy;
 use directory::DirHead;
+use waiting::Waiting;
+use waiting::found;
+use waiting::give;
 use wire::number::be32;
-use wire::number::least;
 
-// The next place of a list and a row, of a copy its own, else the lowest of a directory that was found; or the first
-// refusal.
+// The next place of a list, and what is kept of the directories found and not done; or the first refusal.
 pub enum Listed {
-    Next(usize, usize),
+    Next(usize, Waiting),
     Fault(u32, usize),
 }
 
-// The lower of two rows, if a directory was found in the first; else the second.
-fn found_row(mark: u64, row: usize, low: usize) -> usize
-    ensures { λ r. ⌜ r ≡ pick (leb 8 mark) (lesser row low) low ⌝ }
-{
-    if 8 <= mark {
-        return least(row, low);
-    }
-    low
-}
-
-// Gives a record its part and owner, where it has none.
-fn assign_part(part: &mut [u64], owner: &mut [u64], g: Claim) -> Listed
+// Gives a record its part and owner, where it has none, and tells whether it had none. A directory gets its mark after it.
+fn assign_part(part: &mut [u64], owner: &mut [u64], g: Claim) -> bool
     requires { ⌜ (g .row < length (now part)) × (length (now owner) ≡ length (now part)) ⌝ }
-    ensures { λ r. ⌜ Runs (given g) part owner r × NoOther (before part) (after part) r ⌝ }
+    ensures { λ r. ⌜ Assigns (before part) (before owner) (after part) (after owner) g r ⌝ }
 {
     let row = g.row;
-    if part[row] != 7 {
-        return Listed::Fault(14, g.place);
+    if part[row] % 16 != 7 {
+        return false;
     }
-    part[row] = g.part;
+    give(part, row, g.part);
     owner[row] = g.dir;
-    Listed::Next(g.next, row)
+    true
 }
 
-// One copy of a keys list.
-fn one_copy(
-    file: &[u8],
-    start: &[u64],
-    part: &mut [u64],
-    owner: &mut [u64],
-    list: Span,
-    at: usize,
-    near: usize,
-) -> Listed
-    requires { ⌜ Tables (now start) (now part) (now owner) ⌝ }
-    ensures { λ r. ⌜ Runs (copyStep (before file) (before start) list at) part owner r
-        × NoOther (before part) (after part) r ⌝ }
+// The mark of a directory whose part and owner were given.
+fn mark_dir(start: &[u64], part: &mut [u64], g: Claim, w: Waiting) -> Waiting
+    ensures { λ r. ⌜ Marks (before start) (before part) (after part) g w r ⌝ }
 {
-    match test_copy(file, start, list, at, near) {
-        Entry::Fits(g) => assign_part(part, owner, g),
-        Entry::Fault(c, p) => Listed::Fault(c, p),
+    if g.part < 8 {
+        return w;
     }
+    found(start, part, g.row, w)
 }
 
 // Some copies of a keys list, one after the other.
@@ -79,26 +56,31 @@ fn list_copies(
     list: Span,
     from: usize,
     count: u32,
+    w: Waiting,
 ) -> Listed
-    requires { ⌜ Tables (now start) (now part) (now owner) ⌝ }
-    ensures { λ r. ⌜ Runs (copiesStep (before file) (before start) list count from) part owner r
-        × NoneBelow (before part) (after part) r ⌝ }
+    requires { ⌜ Tables (now start) (now part) (now owner) w ⌝ }
+    ensures { λ r. ⌜ Runs (copiesStep (before file) (before start) list count from) start part owner r ⌝ }
 {
     let mut at = from;
     let mut left = count;
-    let mut low = part.len();
     let mut near: usize = 0;
+    let mut kept = w;
     while 0 < left {
-        let r = one_copy(file, start, part, owner, list, at, near);
-        let Listed::Next(next, row) = r else {
-            return r;
+        let g = match test_copy(file, start, list, at, near) {
+            Entry::Fits(g) => g,
+            Entry::Fault(c, p) => {
+                return Listed::Fault(c, p);
+            }
         };
-        low = found_row(part[row], row, low);
-        near = row + 1;
-        at = next;
+        near = g.row + 1;
+        if !assign_part(part, owner, g) {
+            return Listed::Fault(14, g.place);
+        }
+        kept = mark_dir(start, part, g, kept);
+        at = g.next;
         left -= 1;
     }
-    Listed::Next(at, low)
+    Listed::Next(at, kept)
 }
 
 // The data of a keys list.
@@ -109,16 +91,16 @@ fn list_data(
     owner: &mut [u64],
     list: Span,
     from: usize,
+    w: Waiting,
 ) -> Listed
-    requires { ⌜ Tables (now start) (now part) (now owner) × (from ≤ list .end) × (list .end ≤ length (now file)) ⌝ }
-    ensures { λ r. ⌜ Runs (dataStep (before file) (before start) list from) part owner r
-        × NoneBelow (before part) (after part) r ⌝ }
+    requires { ⌜ Tables (now start) (now part) (now owner) w × (from ≤ list .end) × (list .end ≤ length (now file)) ⌝ }
+    ensures { λ r. ⌜ Runs (dataStep (before file) (before start) list from) start part owner r ⌝ }
 {
     if list.end - from < 4 {
         return Listed::Fault(12, list.seek as usize);
     }
     let count = be32(file, from);
-    let r = list_copies(file, start, part, owner, list, from + 4, count);
+    let r = list_copies(file, start, part, owner, list, from + 4, count, w);
     let Listed::Next(at, _) = r else {
         return r;
     };
@@ -136,25 +118,24 @@ pub(crate) fn list_keys(
     owner: &mut [u64],
     dir: u64,
     head: DirHead,
+    w: Waiting,
 ) -> Listed
-    requires { ⌜ Tables (now start) (now part) (now owner) ⌝ }
-    ensures { λ r. ⌜ Runs (keysTurn (before file) (before start) dir head) part owner r
-        × NoneBelow (before part) (after part) r ⌝ }
+    requires { ⌜ Tables (now start) (now part) (now owner) w ⌝ }
+    ensures { λ r. ⌜ Runs (keysTurn (before file) (before start) dir head) start part owner r ⌝ }
 {
     match find_list(file, start, dir, head) {
-        Keys::Nothing => Listed::Next(0, part.len()),
+        Keys::Nothing => Listed::Next(0, w),
         Keys::Fault(c, p) => Listed::Fault(c, p),
         Keys::Held(g, from, end) => {
-            let r = assign_part(part, owner, g);
-            let Listed::Next(_, _) = r else {
-                return r;
-            };
+            if !assign_part(part, owner, g) {
+                return Listed::Fault(14, g.place);
+            }
             let list = Span {
                 dir,
                 seek: head.seekkeys,
                 end,
             };
-            list_data(file, start, part, owner, list, from)
+            list_data(file, start, part, owner, list, from, w)
         }
     }
 }

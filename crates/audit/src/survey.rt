@@ -4,26 +4,49 @@ ghost use lib.ListN.{length};
 ghost use Rattle.wire.specs.Lent.{before, after};
 ghost use Rattle.rules.specs.Turn.{firstParts};
 ghost use Rattle.rules.specs.Order.{ruled};
-ghost use Rattle.audit.specs.Listing.{Ran, Tables};
+ghost use Rattle.waiting.specs.Waiting.{partsIn, Keeps};
+ghost use Rattle.audit.specs.Listing.{restParts, Ran, Sized};
+ghost use Rattle.rows.specs.Row.{Rises};
 use crate::keys::Listed;
 use crate::rounds::list_dirs;
 use directory::Dir;
 use directory::read_head;
 use fileheader::FileHead;
 use freelist::check_free;
+use rows::Row;
 use rows::lists::check_info;
 use rows::lists::part_at;
+use rows::seek_row;
 use table::clear;
+use waiting::Waiting;
+use waiting::found;
 
-// The parts before the first directory is taken.
-fn first_parts(file: &[u8], start: &[u64], part: &mut [u64], head: FileHead)
+// The first parts, before the head is found.
+fn fill_parts(file: &[u8], start: &[u64], part: &mut [u64], head: FileHead)
     requires { ⌜ length (now part) ≡ length (now start) ⌝ }
-    ensures { λ _. ⌜ after part ≡ firstParts (before file) head (before start) ⌝ }
+    ensures { λ _. ⌜ after part ≡ restParts (before file) head (before start) ⌝ }
 {
     let mut i: usize = 0;
     while i < start.len() {
-        part[i] = part_at(file, start[i], head);
+        part[i] = part_at(file, start[i], head) % 8;
         i += 1;
+    }
+}
+
+// The parts before the first directory is taken: the head is found.
+fn first_parts(file: &[u8], start: &[u64], part: &mut [u64], head: FileHead) -> Waiting
+    requires { ⌜ Rises (now start) × (length (now part) ≡ length (now start)) ⌝ }
+    ensures { λ w. ⌜ (partsIn (after part) ≡ firstParts (before file) head (before start)) × Keeps (before start) (after part) w ⌝ }
+{
+    fill_parts(file, start, part, head);
+    let none = Waiting {
+        row: part.len(),
+        place: 0,
+        number: 0,
+    };
+    match seek_row(start, 100, 0) {
+        Row::At(row) => found(start, part, row, none),
+        Row::Nothing => none,
     }
 }
 
@@ -35,7 +58,7 @@ pub(crate) fn survey(
     owner: &mut [u64],
     head: FileHead,
 ) -> Listed
-    requires { ⌜ Tables (now start) (now part) (now owner) ⌝ }
+    requires { ⌜ Sized (now start) (now part) (now owner) ⌝ }
     ensures { λ r. ⌜ Ran (ruled (before file) head (before start)) r (after part) (after owner) ⌝ }
 {
     let Dir::Held(_) = read_head(file, head.nbytesname) else {
@@ -47,7 +70,7 @@ pub(crate) fn survey(
     if !check_info(file, start, head) {
         return Listed::Fault(10, head.seekinfo as usize);
     }
-    first_parts(file, start, part, head);
     clear(owner, 0);
-    list_dirs(file, start, part, owner, head)
+    let w = first_parts(file, start, part, head);
+    list_dirs(file, start, part, owner, head, w)
 }

@@ -1,5 +1,5 @@
 -- The test of a copy, and the record of a keys list.
-use Prim.Native.Nat.{ℕ, _+_, _<_}
+use Prim.Native.Nat.{ℕ, _+_, _<_, _≤_}
 use mathlib.Core.Bool.{Bool, true, false, not}
 use mathlib.Core.List.{List}
 use mathlib.Core.Path.{_≡_, refl, sym, ap, _∙_, subst}
@@ -21,7 +21,7 @@ use Rattle.keylist.specs.Keys.{listIn, copyIn, listAnswer}
 use Rattle.keylist.specs.declared.Data.{Data}
 use Rattle.keylist.specs.declared.Data.the-variants as span
 use Rattle.keylist.proofs.Records.{list-lies}
-use Rattle.rules.specs.Entry.{isRecord, entryFits}
+use Rattle.rules.specs.Entry.{isRecord, entryFits, dirClass}
 use Rattle.rules.specs.Row.{starts}
 use Rattle.rules.specs.Turn.{rowOf, listedMark, onCopy, copyTurn, onData, keysIn, keysTurn}
 use Rattle.rules.proofs.Rows.{start-there, no-start, row-of}
@@ -72,12 +72,21 @@ copy-passed s qs d c k st e f g h = (st, (ap isRecord e, (passed _ _ f g, (h, tt
 no-claim : {g : Claim} {n p : ℕ} {A : Type 0} → entry.Fault n p ≡ entry.Fits g → A
 no-claim e = let z : _≡_ {A = ℕ} 0 1 = cc in absurd (omega arith)
 
+listed-small : (s : List ℕ) (p : ℕ) → listedMark s p ≤ 14
+unfolding listedMark
+listed-small s p = go (dirClass s (pieceAt s p))
+  where
+    go : (b : Bool) → pick {A = ℕ} b 14 5 ≤ 14
+    go true = omega arith
+    go false = omega arith
+
 -- the test of a copy
 module _ (s qs : List ℕ) (l : Span) (c : ℕ) where
   pub copy-bad : Bad ≡ copyIn s c (l .end) → Tests s qs l c (entry.Fault 12 (l .seek))
   unfolding copyTurn
   copy-bad e = record {
     row = λ g f. no-claim f;
+    part = λ g f. no-claim f;
     step = λ up ps os. ap (onCopy s qs (l .dir) (l .seek) c ps os) (sym e);
     told = λ up. ap (copyTold s qs l c) e;
   }
@@ -90,6 +99,7 @@ module _ (s qs : List ℕ) (l : Span) (c : ℕ) where
     pub copy-wrong : (Rises qs → All (entryFits s qs (l .dir) c k) → ⊥) → Tests s qs l c (entry.Fault 13 c)
     copy-wrong h = record {
       row = λ g f. no-claim f;
+      part = λ g f. no-claim f;
       step = λ up ps os. by-key ps os ∙ rw (not-all (entryFits s qs (l .dir) c k) (h up));
       told = λ up. sym (not-picked (entryFits s qs (l .dir) c k) _ _ (h up)) ∙ ap (copyTold s qs l c) e;
     }
@@ -98,6 +108,7 @@ module _ (s qs : List ℕ) (l : Span) (c : ℕ) where
         → Tests s qs l c (entry.Fits (record { row = i; part = m; dir = l .dir; next = c + k .keylen; place = c }))
     copy-fits h {i} {m} o f = record {
       row = λ g z. let j : i ≡ g .row = cc in rw j at (o .within);
+      part = λ g z. let j : m ≡ g .part = cc in omega (arith, f, listed-small s (k .seekkey));
       step = λ up ps os. by-key ps os ∙ rw (yes-all (entryFits s qs (l .dir) c k) h, o .row up, sym f);
       told = λ up. sym (picked (entryFits s qs (l .dir) c k) _ _ h) ∙ ap (copyTold s qs l c) e;
     }

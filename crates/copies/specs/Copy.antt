@@ -14,7 +14,7 @@ use Rattle.keylist.specs.Keys.{copyIn, listAnswer, copyAnswer}
 use Rattle.rows.specs.Row.{Rises}
 use Rattle.rules.specs.Entry.{entryFits}
 use Rattle.rules.specs.Part as part
-use Rattle.rules.specs.Turn.{Turn, going, stopAt, andThen, give, copyTurn, dataTurn, keysIn, keysTurn}
+use Rattle.rules.specs.Turn.{Turn, going, stopAt, andThen, found, give, copyTurn, dataTurn, keysIn, keysTurn}
 use Rattle.copies.specs.declared.Span.{Span}
 use Rattle.copies.specs.declared.Claim.{Claim}
 use Rattle.copies.specs.declared.Entry.{Entry}
@@ -52,6 +52,7 @@ entryStep (entry.Fault n p) ps os = stopAt (entryAnswer (entry.Fault n p))
 -- what the test of the copy at c promises: for a table that rises it is what the order has there
 pub record Tests (s qs : List ℕ) (l : Span) (c : ℕ) (r : Entry) : Type 0 where
   pub row : (g : Claim) → r ≡ entry.Fits g → g .row < length qs
+  pub part : (g : Claim) → r ≡ entry.Fits g → g .part ≤ found part.dir
   pub step : Rises qs → (ps os : List ℕ) → copyStep s qs l c ps os ≡ entryStep r ps os
   pub told : Rises qs → entryAnswer r ≡ copyTold s qs l c (copyIn s c (l .end))
 

@@ -2,7 +2,7 @@
 use Prim.Native.Nat.{ℕ, zero, suc, _-_, _<_, _≤_}
 use mathlib.Core.Bool.{Bool, true, false}
 use mathlib.Core.List.{List}
-use mathlib.Core.Logic.{_⊎_, ⊎-elim}
+use mathlib.Core.Logic.{⊎-elim}
 use mathlib.Core.Path.{_≡_, refl, subst}
 use native.Mathlib.Omega.{arith}
 use borrow.Author.Tests.{ltb-true, ltb-false}
@@ -47,7 +47,7 @@ module _ (s : List ℕ) (h : FileHead) (qs : List ℕ) (p : Partition s 100 (len
     less =
         let b = done-all in
         let e = b .outPart j (λ m k. let x = b .free j m k in omega arith) in
-        fewer (getD qs j 0) its ps os us vs j (getD ps j 0 - 8) proper a (omega (arith, b .parts, v .parts)) (omega arith) low
+        fewer (getD qs j 0) its ps os us vs j (getD ps j 0 - 8) a (omega (arith, b .parts, v .parts)) (omega arith) low
       where
         low : getD ps j 0 - 8 < 7
         low = ⊎-elim (λ (e : getD ps j 0 ≡ 9). omega arith) (λ (e : getD ps j 0 ≡ 14). omega arith) (v .shape j l todo)

@@ -93,7 +93,7 @@ fn zigzag(dirs: usize) -> Vec<usize> {
 
 /// The head is 0 and directory `nth` of the parents is `nth + 1`. `order` has each `nth` once, in file order. The
 /// keys lists of those that list something follow, then loose records up to so many pieces, then the free list.
-fn directories(pieces: usize, parents: &[usize], order: &[usize]) -> Plan {
+pub fn directories(pieces: usize, parents: &[usize], order: &[usize]) -> Plan {
     let mut rng = Rng::new(5);
     let mut plan = Plan { version: 62400, ..Plan::default() };
     let head = plan.add(item(&mut rng, Role::Head, "TFile", None));

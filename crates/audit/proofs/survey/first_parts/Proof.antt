@@ -1,38 +1,26 @@
-use native.Mathlib.Omega.{arith}
+use mathlib.Core.Path.{refl}
+use Rattle.audit.proofs.Fills.{none-found, head-found, found-row, no-found-row}
 use borrow.Author.Needs.{needs}
-use Prim.Native.Nat.{_-_}
-use lib.ListN.{length}
-use Rattle.audit.proofs.Fills.{Parting, parts-began, parts-kept, parts-again, parts-ended}
 use Rattle.audit.proofs.survey.first_parts.Statement.{statement}
 use Rattle.audit.proofs.survey.first_parts.Tie as tie
 
-abbrev Inv-loop : tie.InvT-loop
-Inv-loop file start part₀ head i₀ part i = Parting file start part₀ part head i
+returns : tie.Need-returns
+returns c =
+    let c7 = c .before .before .before .before .before .before .before in
+    let b = c7 .before .before .before .before .before .before .before .before in
+    let r = found-row _ (c7 .seek-row .ensures) (c .before .before .before .before .before .row .given .1) in
+    let f = c .before .before .found .ensures in
+    head-found _ _ _ (b .pre .0) _ (r .0) (r .1) (c7 .before .before .before .fill-parts .ensures) refl refl refl (f .marked) (f .kept)
 
-abbrev μ-loop : tie.MeasureT-loop
-μ-loop file start part₀ head i₀ part i = length start - i
-
-loop-holds : tie.Need-loop-holds Inv-loop μ-loop
-loop-holds c = parts-began _ _ _ _ (c .before .before .before .pre)
-
-part-at-requires : tie.Need-part-at-requires Inv-loop μ-loop
-part-at-requires c κs = search needs
-
-slice-write-part : tie.Need-slice-write-part Inv-loop μ-loop
-slice-write-part c = let k = parts-kept (c .before .before .before .loop .inv) in omega arith
-
-loop-again : tie.Need-loop-again Inv-loop μ-loop
-loop-again c = parts-again (c .before .before .before .loop .inv) (c .before .before .loop-test .taken) (c .part-at .ensures)
-
-same-length : tie.Need-same-length Inv-loop μ-loop
-same-length c = parts-kept (c .before .loop .inv)
-
-returns : tie.Need-returns Inv-loop μ-loop
-returns c = parts-ended (c .before .loop .inv) (c .loop-test .left)
+returns-2 : tie.Need-returns-2
+returns-2 c =
+    let c2 = c .before .before in
+    let b = c2 .before .before .before .before .before .before .before .before in
+    none-found _ _ _ (no-found-row _ (b .pre .0) (c2 .seek-row .ensures) (c .enum-told .given .1))
+    (c2 .before .before .before .fill-parts .ensures) refl refl refl
 
 pub first-parts-spec : {M : Type 1} → statement M
 first-parts-spec =
     tie.close
     (tie.spec
-    Inv-loop μ-loop loop-holds (search needs) (search needs) part-at-requires (search needs) slice-write-part (search needs)
-    (search needs) loop-again same-length returns)
+    (search needs) (search needs) (search needs) (search needs) (search needs) (search needs) returns (search needs) returns-2)
