@@ -6,7 +6,7 @@
  *
  * Every function that answers returns a number, ROOTMAP_PASSED for success, and writes *place and
  * *count in every case. The numbers are named below. Only ROOTMAP_PASSED is a pass: whatever else
- * rootmap_audit returns, ROOTMAP_UNFINISHED too, says nothing good of the file.
+ * rootmap_audit or rootmap_view returns, ROOTMAP_UNFINISHED too, says nothing good of the file.
  *
  * A pass is no checksum: the data of objects are not looked into.
  *
@@ -50,7 +50,7 @@
 #define ROOTMAP_REFERENCED 23 /* an object in the info record is referenced */
 #define ROOTMAP_ROWS 24       /* there are more elements than rows */
 
-/* The parts that rootmap_audit gives to the pieces of a file. */
+/* The parts that an audit gives to the pieces of a file. */
 #define ROOTMAP_PART_GAP 0
 #define ROOTMAP_PART_HEAD 1     /* the record of the file itself, at 100 */
 #define ROOTMAP_PART_FREE 2     /* the list of free space */
@@ -140,6 +140,26 @@ uint64_t rootmap_write_key(uint32_t nbytes, uint32_t version, uint32_t objlen, u
 uint64_t rootmap_audit(const uint8_t *file, size_t file_len, uint64_t *start, size_t start_len,
                        uint64_t *part, size_t part_len, uint64_t *owner, size_t owner_len,
                        uint64_t *place, uint64_t *count);
+
+/* A piece as a viewer shows it: its start, its size in bytes, its part and its owner. */
+struct rootmap_row {
+    uint64_t start;
+    uint64_t size;
+    uint64_t part;
+    uint64_t owner;
+};
+
+/*
+ * Audits a whole file as rootmap_audit does, and shows the rows in a list as well. There is room for
+ * as many rows as the shortest of the three tables and the list has.
+ *
+ * Passed: as rootmap_audit, and record i of the list is start, size, part and owner of piece i; later
+ * records are all 0, to the list's end. Refused: the number, place and count of rootmap_audit with
+ * this room, and every entry of every table and every record is 0.
+ */
+uint64_t rootmap_view(const uint8_t *file, size_t file_len, uint64_t *start, size_t start_len,
+                      uint64_t *part, size_t part_len, uint64_t *owner, size_t owner_len,
+                      struct rootmap_row *list, size_t list_len, uint64_t *place, uint64_t *count);
 
 /*
  * Reads the unpacked StreamerInfo record at offset `at` of a whole file into a table of rows of six

@@ -11,6 +11,7 @@ use std::hint::black_box;
 pub mod audit;
 pub mod info;
 mod table;
+pub mod view;
 
 /// How many inputs were compared, and how often each number was answered.
 pub struct Tally {

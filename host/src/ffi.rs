@@ -10,6 +10,7 @@ pub mod audit;
 pub mod info;
 pub mod number;
 pub mod part;
+pub mod view;
 
 pub use answer::Answer;
 

@@ -11,7 +11,7 @@ use Rattle.wire.specs.Check.{pick}
 use Rattle.wire.specs.Answer.{done, refusal}
 use Rattle.wire.specs.Lent.{Lent, before, after}
 use Rattle.wire.specs.declared.Answer.{Answer}
-use Rattle.wire.proofs.Numbers.{lesser-within}
+use Rattle.wire.proofs.Numbers.{lesser-within, lesser-second}
 use Rattle.key.specs.Piece.{pieceAt}
 use Rattle.key.specs.declared.piece.Piece.the-variants as piece
 use Rattle.fileheader.specs.File.{openedAs}
@@ -27,7 +27,7 @@ use Rattle.rules.proofs.Chains.{chain-whole, chain-fault}
 use Rattle.rules.proofs.Demands.{demand}
 use Rattle.audit.specs.Listing.{Ran, Sized}
 use Rattle.audit.specs.Examined.{Answers, Begins, Filled}
-use Rattle.audit.specs.Tables.{roomOf, room, told, Audits}
+use Rattle.audit.specs.Tables.{roomOf, roomIn, AuditsIn, Audits, toldWithin, AuditsWithin}
 use Rattle.chain.specs.Walk.{over, Walked}
 use Rattle.chain.specs.declared.Outcome.{Outcome}
 use Rattle.waiting.specs.declared.Waiting.{Waiting}
@@ -100,21 +100,22 @@ chain-refused s room t u v w o e k g =
     told-fault u v w (verdict-fault s room (sym o) (f .0) (f .1) (f .2) (f .3)) g
 
 -- the room, as it was computed once the starts were written
-room-is : (t u v w : List ℕ) {a b : ℕ} → length u ≡ length t → a ≡ lesser (length u) b → b ≡ lesser (length v) (length w)
-    → a ≡ roomOf t v w
-room-is t u v w {a} {b} l e f = e ∙ rw (l, f)
+room-is : (m : ℕ) (t u v w : List ℕ) {a b c : ℕ} → length u ≡ length t → a ≡ lesser m b → b ≡ lesser (length u) c
+    → c ≡ lesser (length v) (length w) → a ≡ roomIn m t v w
+room-is m t u v w l e f g = e ∙ rw (f, l, g)
 
-pub record Fits (n : ℕ) (t v w : List ℕ) : Type 0 where
-  pub room : n ≤ roomOf t v w
+pub record Fits (m n : ℕ) (t v w : List ℕ) : Type 0 where
+  pub room : n ≤ roomIn m t v w
   pub starts : n ≤ length t
   pub parts : n ≤ length v
   pub owners : n ≤ length w
 
-fits : (t v w : List ℕ) {n a : ℕ} → a ≡ roomOf t v w → n ≤ a → Fits n t v w
-fits t v w {n} {a} e l =
+fits : (m : ℕ) (t v w : List ℕ) {n a : ℕ} → a ≡ roomIn m t v w → n ≤ a → Fits m n t v w
+fits m t v w {n} {a} e l =
+    let d = lesser-within m (roomOf t v w) in
     let f = lesser-within (length t) (lesser (length v) (length w)) in
     let g = lesser-within (length v) (length w) in
-    record { room = omega (arith, e); starts = omega (arith, e, f); parts = omega (arith, e, f, g); owners = omega (arith, e, f, g) }
+    record { room = omega (arith, e); starts = omega (arith, e, d, f); parts = omega (arith, e, d, f, g); owners = omega (arith, e, d, f, g) }
 
 -- a whole chain: its starts, and the table with them
 pub record Entire (s : List ℕ) (h : FileHead) (t u : List ℕ) (n : ℕ) : Type 0 where
@@ -135,17 +136,17 @@ module _ {s : List ℕ} {h : FileHead} {t u : List ℕ} {n : ℕ} (k : Entire s 
   entire-kept = ap length (k .table) ∙ length-over (k .starts) t
 
   -- the room, as it was computed
-  module _ (v w : List ℕ) {a b : ℕ} (e : a ≡ lesser (length u) b) (f : b ≡ lesser (length v) (length w)) where
-    pub entire-fits : n ≤ a → Fits n t v w
-    entire-fits l = fits t v w (room-is t u v w entire-kept e f) l
+  module _ (m : ℕ) (v w : List ℕ) {a b c : ℕ} (e : a ≡ lesser m b) (f : b ≡ lesser (length u) c) (g : c ≡ lesser (length v) (length w)) where
+    pub entire-fits : n ≤ a → Fits m n t v w
+    entire-fits l = fits m t v w (room-is m t u v w entire-kept e f g) l
 
     pub entire-seven : (x y : List ℕ) → a < n
-        → Examined (verdict s (roomOf t v w)) (record { number = 7; place = 0; count = n }) u x y
+        → Examined (verdict s (roomIn m t v w)) (record { number = 7; place = 0; count = n }) u x y
     entire-seven x y l =
-        let m : roomOf t v w < length (k .starts) = rw (sym (room-is t u v w entire-kept e f), sym (k .count)) l in
-        told-refusal u x y (verdict-seven s (roomOf t v w) (k .good) (k .starts) (k .partition) m ∙ rw (k .count)) (λ z. absurd (omega arith))
+        let i : roomIn m t v w < length (k .starts) = rw (sym (room-is m t u v w entire-kept e f g), sym (k .count)) l in
+        told-refusal u x y (verdict-seven s (roomIn m t v w) (k .good) (k .starts) (k .partition) i ∙ rw (k .count)) (λ z. absurd (omega arith))
 
-  module _ {v w : List ℕ} (fit : Fits n t v w) where
+  module _ {m : ℕ} {v w : List ℕ} (fit : Fits m n t v w) where
     pub entire-room : n ≤ length u
     entire-room = omega (arith, fit .starts, entire-kept)
 
@@ -159,21 +160,21 @@ module _ {s : List ℕ} {h : FileHead} {t u : List ℕ} {n : ℕ} (k : Entire s 
       owners = rw (entire-starts, length-take-le n w (fit .owners)) (k .count);
     }
 
-    turned : {r : Turn} → ruled s h (take n u) ≡ r → verdict s (roomOf t v w) ≡ onTurn (k .starts) r
-    turned e = verdict-turn s (roomOf t v w) (k .good) (k .starts) (k .partition) (rw (sym (k .count)) (fit .room)) ((rw entire-starts at e))
+    turned : {r : Turn} → ruled s h (take n u) ≡ r → verdict s (roomIn m t v w) ≡ onTurn (k .starts) r
+    turned e = verdict-turn s (roomIn m t v w) (k .good) (k .starts) (k .partition) (rw (sym (k .count)) (fit .room)) ((rw entire-starts at e))
 
     pub entire-stops : {c q : ℕ} {r : Listed} {a : Answer} (ps os x y : List ℕ) → r ≡ Fault c q → Ran (ruled s h (take n u)) r ps os
-        → a ≡ refusal c q → Examined (verdict s (roomOf t v w)) a u x y
+        → a ≡ refusal c q → Examined (verdict s (roomIn m t v w)) a u x y
     entire-stops ps os x y e r g = told-fault u x y (turned (fault-is (ruled s h (take n u)) ps os e r)) g
 
     pub entire-passes : {a : ℕ} {b : Waiting} {r : Listed} (ps os x y : List ℕ) → length ps ≡ length (take n v) → length os ≡ length (take n w)
         → r ≡ Next a b → Ran (ruled s h (take n u)) r ps os → {d : Answer} → d ≡ done n
-        → Examined (verdict s (roomOf t v w)) d u (ps ++ x) (os ++ y)
+        → Examined (verdict s (roomIn m t v w)) d u (ps ++ x) (os ++ y)
     entire-passes ps os x y a b e r z =
         told-pass u (ps ++ x) (os ++ y)
         (turned (next-is (ruled s h (take n u)) ps os e r))
         (k .count)
-        (ap (λ (m : ℕ). take m u) (sym (k .count)) ∙ entire-starts)
+        (ap (λ (i : ℕ). take i u) (sym (k .count)) ∙ entire-starts)
         (take-at ps x (length ps) refl)
         (take-at os y (length os) refl)
         (a ∙ length-take-le n v (fit .parts) ∙ k .count)
@@ -203,19 +204,30 @@ begins-table : (xs t r u : List ℕ) {n : ℕ} → Begins xs t → n ≡ length 
 begins-table xs t r u b e l f = f ∙ rw (e, b, l)
 
 -- once the rest of each table is cleared
-pub audited : (file start part owner : Lent) (a : Answer) {n : ℕ} (t u w : List ℕ) → Answers (told file start part owner) a
-    → Rows (told file start part owner) n t u w → length t ≡ length (before start) → length u ≡ length (before part)
+pub audited : (m : ℕ) (file start part owner : Lent) (a : Answer) {n : ℕ} (t u w : List ℕ) → Answers (toldWithin m file start part owner) a
+    → Rows (toldWithin m file start part owner) n t u w → length t ≡ length (before start) → length u ≡ length (before part)
     → length w ≡ length (before owner) → after start ≡ cleared t n → after part ≡ cleared u n → after owner ≡ cleared w n
-    → Audits file start part owner a
-audited file start part owner a t u w x y i j k d e f = record {
+    → AuditsWithin m file start part owner a
+audited m file start part owner a t u w x y i j k d e f = record {
   number = x .number;
   place = x .place;
   count = x .count;
   starts = begins-table (startsOf v) t (before start) (after start) (y .filled .starts) (y .count) i d;
   parts = begins-table (partsOf v) u (before part) (after part) (y .filled .parts) (y .count ∙ sym (y .filled .eachPart)) j e;
   owners = begins-table (ownersOf v) w (before owner) (after owner) (y .filled .owners) (y .count ∙ sym (y .filled .eachOwner)) k f;
-  demand = demand (before file) (room file start part owner);
+  demand = demand (before file) (roomIn m (before start) (before part) (before owner));
 }
   where
     v : Verdict
-    v = told file start part owner
+    v = toldWithin m file start part owner
+
+-- the first table's length is no limit beside the tables
+pub unlimited : {file start part owner : Lent} {a : Answer} → AuditsWithin (length (before start)) file start part owner a
+    → Audits file start part owner a
+unlimited {file} {start} {part} {owner} {a} k =
+    let v = before part in
+    let w = before owner in
+    let n = length (before start) in
+    let e : lesser n (roomOf (before start) v w) ≡ roomOf (before start) v w =
+    sym (lesser-second n (roomOf (before start) v w) (lesser-within n (lesser (length v) (length w)) .0)) in
+    subst (λ (m : ℕ). AuditsIn m file start part owner a) e k

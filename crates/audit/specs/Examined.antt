@@ -6,7 +6,7 @@ use lib.ListN.{length, take}
 use Rattle.wire.specs.declared.Answer.{Answer}
 use Rattle.wire.specs.Lent.{Lent, after}
 use Rattle.rules.specs.Order.{Verdict, numberOf, placeOf, countOf, startsOf, partsOf, ownersOf}
-use Rattle.audit.specs.Tables.{told}
+use Rattle.audit.specs.Tables.{toldWithin}
 
 -- number, place and count are the verdict's
 pub record Answers (v : Verdict) (a : Answer) : Type 0 where
@@ -28,6 +28,6 @@ pub record Filled (v : Verdict) (start part owner : List ℕ) : Type 0 where
   pub eachOwner : length (ownersOf v) ≡ length (startsOf v)
   pub counted : numberOf v ≡ 0 → countOf v ≡ length (startsOf v)
 
-abbrev pub Examines : Lent → Lent → Lent → Lent → Answer → Type 0
-Examines file start part owner r =
-    Answers (told file start part owner) r × Filled (told file start part owner) (after start) (after part) (after owner)
+abbrev pub Examines : ℕ → Lent → Lent → Lent → Lent → Answer → Type 0
+Examines limit file start part owner r =
+    let v = toldWithin limit file start part owner in Answers v r × Filled v (after start) (after part) (after owner)

@@ -14,21 +14,45 @@ use Rattle.rules.specs.Order.{Verdict, verdict, numberOf, placeOf, countOf, sta
 abbrev pub roomOf : List ℕ → List ℕ → List ℕ → ℕ
 roomOf start part owner = lesser (length start) (lesser (length part) (length owner))
 
+-- and no more rows than a limit
+abbrev pub roomIn : ℕ → List ℕ → List ℕ → List ℕ → ℕ
+roomIn limit start part owner = lesser limit (roomOf start part owner)
+
+-- what is promised with this room
+module _ (room : ℕ) (file : Lent) where
+  abbrev pub toldIn : Verdict
+  toldIn = verdict (before file) room
+
+  module _ (start part owner : Lent) where
+    pub record AuditsIn (r : Answer) : Type 0 where
+      -- number, place and count are the verdict's
+      pub number : r .number ≡ numberOf toldIn
+      pub place : r .place ≡ placeOf toldIn
+      pub count : r .count ≡ countOf toldIn
+      -- each table holds the rows, then zeros to its own end
+      pub starts : after start ≡ filled (startsOf toldIn) (length (before start))
+      pub parts : after part ≡ filled (partsOf toldIn) (length (before part))
+      pub owners : after owner ≡ filled (ownersOf toldIn) (length (before owner))
+      -- and the verdict means what the third demand says
+      pub demand : Demand (before file) room
+
 module _ (file start part owner : Lent) where
   abbrev pub room : ℕ
   room = roomOf (before start) (before part) (before owner)
 
   abbrev pub told : Verdict
-  told = verdict (before file) room
+  told = toldIn room file
 
-  pub record Audits (r : Answer) : Type 0 where
-    -- number, place and count are the verdict's
-    pub number : r .number ≡ numberOf told
-    pub place : r .place ≡ placeOf told
-    pub count : r .count ≡ countOf told
-    -- each table holds the rows, then zeros to its own end
-    pub starts : after start ≡ filled (startsOf told) (length (before start))
-    pub parts : after part ≡ filled (partsOf told) (length (before part))
-    pub owners : after owner ≡ filled (ownersOf told) (length (before owner))
-    -- and the verdict means what the third demand says
-    pub demand : Demand (before file) room
+  abbrev pub Audits : Answer → Type 0
+  Audits = AuditsIn room file start part owner
+
+-- the same with a limit beside the tables
+module _ (limit : ℕ) (file start part owner : Lent) where
+  abbrev pub roomWithin : ℕ
+  roomWithin = roomIn limit (before start) (before part) (before owner)
+
+  abbrev pub toldWithin : Verdict
+  toldWithin = toldIn roomWithin file
+
+  abbrev pub AuditsWithin : Answer → Type 0
+  AuditsWithin = AuditsIn roomWithin file start part owner

@@ -1,6 +1,6 @@
 // The audit of a whole file.
 ghost use Rattle.audit.specs.Examined.{Examines};
-ghost use Rattle.audit.specs.Tables.{Audits};
+ghost use Rattle.audit.specs.Tables.{Audits, AuditsWithin};
 use chain::Outcome;
 use chain::walk;
 use fileheader::Opened;
@@ -18,8 +18,14 @@ mod rounds;
 mod survey;
 
 // The verdict; on a pass the tables begin with the rows.
-fn examine(file: &[u8], start: &mut [u64], part: &mut [u64], owner: &mut [u64]) -> Answer
-    ensures { λ r. ⌜ Examines file start part owner r ⌝ }
+fn examine(
+    file: &[u8],
+    start: &mut [u64],
+    part: &mut [u64],
+    owner: &mut [u64],
+    limit: usize,
+) -> Answer
+    ensures { λ r. ⌜ Examines limit file start part owner r ⌝ }
 {
     let head = match open(file) {
         Opened::Good(h) => h,
@@ -29,7 +35,7 @@ fn examine(file: &[u8], start: &mut [u64], part: &mut [u64], owner: &mut [u64]) 
         Outcome::Whole(n) => n,
         Outcome::Fault(c, p) => return refused(c as u64, p as u64),
     };
-    if least(start.len(), least(part.len(), owner.len())) < n {
+    if least(limit, least(start.len(), least(part.len(), owner.len()))) < n {
         return Answer {
             number: 7,
             place: 0,
@@ -42,12 +48,18 @@ fn examine(file: &[u8], start: &mut [u64], part: &mut [u64], owner: &mut [u64]) 
     }
 }
 
-// Audits a file. On a pass row i of the tables is start, part and owner of piece i, later entries are 0; on a refusal
-// all entries are 0.
-pub fn audit(file: &[u8], start: &mut [u64], part: &mut [u64], owner: &mut [u64]) -> Answer
-    ensures { λ r. ⌜ Audits file start part owner r ⌝ }
+// Audits a file, with room for no more pieces than a limit. On a pass row i of the tables is start, part and owner of piece i,
+// later entries are 0; on a refusal all entries are 0.
+pub fn audit_within(
+    file: &[u8],
+    start: &mut [u64],
+    part: &mut [u64],
+    owner: &mut [u64],
+    limit: usize,
+) -> Answer
+    ensures { λ r. ⌜ AuditsWithin limit file start part owner r ⌝ }
 {
-    let a = examine(file, start, part, owner);
+    let a = examine(file, start, part, owner, limit);
     let mut n: usize = 0;
     if a.number == 0 {
         n = a.count as usize;
@@ -56,4 +68,12 @@ pub fn audit(file: &[u8], start: &mut [u64], part: &mut [u64], owner: &mut [u64]
     clear(part, n);
     clear(owner, n);
     a
+}
+
+// Audits a file: the same with no limit but the tables.
+pub fn audit(file: &[u8], start: &mut [u64], part: &mut [u64], owner: &mut [u64]) -> Answer
+    ensures { λ r. ⌜ Audits file start part owner r ⌝ }
+{
+    let limit = start.len();
+    audit_within(file, start, part, owner, limit)
 }

@@ -5,12 +5,14 @@ ghost use Rattle.wire.specs.Lent.{before, after};
 ghost use Rattle.date.specs.Date.{Packs};
 ghost use Rattle.key.specs.Writer.{Writes};
 ghost use Rattle.streamer.specs.Info.{Informs};
-ghost use Rattle.audit.specs.Tables.{Audits};
+ghost use Rattle.audit.specs.Tables.{Audits, AuditsWithin};
+ghost use Rattle.view.specs.View.{Views};
 ghost use Rattle.capi.specs.Told.{told, dateOf, Unpacked, fieldsOf, storedCycle, recordList, Shows};
 use date::Date;
 use key::header::Fields;
 use key::header::Key;
 use key::piece::Piece;
+use view::Row;
 use wire::number::Bits;
 
 // Packs a date: 0 and the packed value as count, or 18.
@@ -187,4 +189,41 @@ pub extern "C" fn rootmap_audit(
     *place = v.place;
     *count = v.count;
     v.number
+}
+
+// Audits with a limit beside the tables, and writes place and count.
+fn audit_limited(
+    file: &[u8],
+    start: &mut [u64],
+    part: &mut [u64],
+    owner: &mut [u64],
+    limit: usize,
+    place: &mut u64,
+    count: &mut u64,
+) -> u64
+    ensures { λ r. ⌜ AuditsWithin limit file start part owner (told r place count) ⌝ }
+{
+    let seen = audit::audit_within(file, start, part, owner, limit);
+    *place = seen.place;
+    *count = seen.count;
+    seen.number
+}
+
+// Audits a whole file with the list's length for room too, and shows the rows in the list: start, size, part and owner of each piece.
+#[no_mangle]
+pub extern "C" fn rootmap_view(
+    file: &[u8],
+    start: &mut [u64],
+    part: &mut [u64],
+    owner: &mut [u64],
+    list: &mut [Row],
+    place: &mut u64,
+    count: &mut u64,
+) -> u64
+    ensures { λ r. ⌜ Views file start part owner list (told r place count) ⌝ }
+{
+    let limit = list.len();
+    let number = audit_limited(file, start, part, owner, limit, place, count);
+    view::show(file, start, part, owner, list);
+    number
 }

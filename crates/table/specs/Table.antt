@@ -3,9 +3,13 @@ use Prim.Native.Nat.{ℕ, _-_, _<_}
 use mathlib.Core.List.{List, _++_}
 use lib.ListN.{length, getD, take, replicate}
 
+-- a list of n entries: some, then one thing to its end
+abbrev pub filledWith : {A : Type 0} → A → List A → ℕ → List A
+filledWith d xs n = xs ++ replicate (n - length xs) d
+
 -- a table of n entries: the rows, then zeros to its end
 abbrev pub filled : List ℕ → ℕ → List ℕ
-filled xs n = xs ++ replicate (n - length xs) 0
+filled xs n = filledWith 0 xs n
 
 -- the table t with zeros from an entry on
 abbrev pub cleared : List ℕ → ℕ → List ℕ

@@ -4,13 +4,17 @@ use mathlib.Core.List.{List}
 use denote.Ref.{RefT, now}
 use denote.Triple.Both.{Both}
 
+abbrev pub LentOf : Type 0 → Type 0
+LentOf A = Both (RefT (List A)) (RefT (List A))
+
 abbrev pub Lent : Type 0
-Lent = Both (RefT (List ℕ)) (RefT (List ℕ))
+Lent = LentOf ℕ
 
--- what it holds at the call
-abbrev pub before : Lent → List ℕ
-before x = now (x .entry)
+module _ {A : Type 0} where
+  -- what it holds at the call
+  abbrev pub before : LentOf A → List A
+  before x = now (x .entry)
 
--- and at the return
-abbrev pub after : Lent → List ℕ
-after x = now (x .exit)
+  -- and at the return
+  abbrev pub after : LentOf A → List A
+  after x = now (x .exit)

@@ -7,6 +7,7 @@ pub mod date;
 pub mod key;
 pub mod rules;
 pub mod streamer;
+pub mod view;
 pub mod width;
 
 pub use crate::ffi::{number, Answer};

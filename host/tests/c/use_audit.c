@@ -1,4 +1,5 @@
-/* Audits one.root from C, with four-byte and with eight-byte offsets, and checks what is answered and written. */
+/* Audits one.root from C, with four-byte and with eight-byte offsets, into tables and into a list for a viewer, and
+   checks what is answered and written. */
 #include "rootmap.h"
 
 #include <stdio.h>
@@ -12,6 +13,7 @@ static size_t end;
 /* The bytes of an offset. */
 static size_t width;
 static uint64_t tables[3][ROOM];
+static struct rootmap_row list[ROOM];
 static uint64_t place, count;
 
 static void check(int good, const char *what)
@@ -117,6 +119,15 @@ static uint64_t audit(size_t start_len, size_t part_len, size_t owner_len)
                          &count);
 }
 
+static uint64_t view(size_t start_len, size_t part_len, size_t owner_len, size_t list_len)
+{
+    memset(tables, 0x5a, sizeof tables);
+    memset(list, 0x5a, sizeof list);
+    place = count = 9;
+    return rootmap_view(file, end, tables[0], start_len, tables[1], part_len, tables[2], owner_len, list, list_len,
+                        &place, &count);
+}
+
 /* Whether a table of `len` rows holds `rows`, then zeros, and what follows it is untouched. */
 static int holds(const uint64_t *table, size_t len, const uint64_t *rows, size_t row_count)
 {
@@ -124,6 +135,26 @@ static int holds(const uint64_t *table, size_t len, const uint64_t *rows, size_t
     for (i = 0; i < ROOM; i++) {
         uint64_t expected = i >= len ? 0x5a5a5a5a5a5a5a5a : i < row_count ? rows[i] : 0;
         if (table[i] != expected)
+            return 0;
+    }
+    return 1;
+}
+
+/* Whether a list of `len` records holds the rows with their sizes, then zeros, and what follows it is untouched. */
+static int shows(size_t len, const uint64_t *start, const uint64_t *part, const uint64_t *owner, size_t row_count)
+{
+    size_t i;
+    for (i = 0; i < ROOM; i++) {
+        struct rootmap_row expected = {0, 0, 0, 0};
+        if (i >= len) {
+            memset(&expected, 0x5a, sizeof expected);
+        } else if (i < row_count) {
+            expected.start = start[i];
+            expected.size = (i < 4 ? start[i + 1] : end) - start[i];
+            expected.part = part[i];
+            expected.owner = owner[i];
+        }
+        if (memcmp(&list[i], &expected, sizeof expected) != 0)
             return 0;
     }
     return 1;
@@ -146,7 +177,20 @@ static void rows(const uint32_t *starts)
     check(holds(tables[0], 8, start, 0) && holds(tables[1], 4, part, 0) && holds(tables[2], 5, owner, 0),
           "zeros after 7");
 
+    check(view(5, 7, 6, 8) == 0 && place == 0 && count == 5, "one.root passes into a list");
+    check(holds(tables[0], 5, start, 5) && holds(tables[1], 7, part, 5) && holds(tables[2], 6, owner, 5),
+          "tables beside it");
+    check(shows(8, start, part, owner, 5), "its records");
+    check(view(8, 8, 8, 4) == 7 && place == 0 && count == 5, "a list of 4 is 7 with count 5");
+    check(holds(tables[0], 8, start, 0) && holds(tables[1], 8, part, 0) && holds(tables[2], 8, owner, 0),
+          "zeros after 7 beside a list");
+    check(shows(4, start, part, owner, 0), "zeros after 7 in the list");
+
     offset(starts[4] + 29 + 3 * width, starts[4]);
+    check(view(5, 5, 5, 5) == 9 && place == starts[4] && count == 0, "the byte after the gap is 9 with a list");
+    check(holds(tables[0], 5, start, 0) && holds(tables[1], 5, part, 0) && holds(tables[2], 5, owner, 0),
+          "zeros after 9 beside a list");
+    check(shows(5, start, part, owner, 0), "zeros after 9 in the list");
     check(audit(5, 5, 5) == 9 && place == starts[4] && count == 0, "the byte after the gap is 9");
     check(holds(tables[0], 5, start, 0) && holds(tables[1], 5, part, 0) && holds(tables[2], 5, owner, 0),
           "zeros after 9");

@@ -1,4 +1,4 @@
-/* Calls each function of rootmap.h from C, and checks what it answers and writes. */
+/* Packs and unpacks dates, writes keys and reads pieces from C, and checks what is answered and written. */
 #include "rootmap.h"
 
 #include <stdio.h>

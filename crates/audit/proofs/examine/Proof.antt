@@ -23,11 +23,13 @@ whole c =
     entire _ _ _ o (c .before .n .given .1) (c5 .walk .ensures .long (opened-long _ (sym o)))
 
 room : (c : tie.Else1) →
-    let c4 = c .before .before .before .before in
-    let c18 = c4 .before .before .before .before .before .before .before .before .before .before .before .before .before .before in
-    let a = c18 .args in
-    Fits (c4 .n .given .0 .0) (now (a .start)) (now (a .part)) (now (a .owner))
-room c = entire-fits (whole (c .before .before .before)) _ _ (c .before .least2 .ensures) (c .before .before .least .ensures) (c .if1 .left)
+    let c5 = c .before .before .before .before .before in
+    let c19 = c5 .before .before .before .before .before .before .before .before .before .before .before .before .before .before in
+    let a = c19 .args in
+    Fits (a .limit) (c5 .n .given .0 .0) (now (a .start)) (now (a .part)) (now (a .owner))
+room c =
+    entire-fits (whole (c .before .before .before .before)) _ _ _ (c .before .least3 .ensures) (c .before .before .least2 .ensures)
+    (c .before .before .before .least .ensures) (c .if1 .left)
 
 open-requires : tie.Need-open-requires
 open-requires c κs = search needs
@@ -60,16 +62,17 @@ least-requires-2 c κs = search needs
 
 returns-3 : tie.Need-returns-3
 returns-3 c =
-    let c3 = c .before .before .before in
-    let c18 = c3 .before .before .before .before .before .before .before .before .before .before .before .before .before .before .before in
-    let a = c18 .args in
-    entire-seven (whole c3) (now (a .part)) (now (a .owner)) (c .before .least2 .ensures) (c .before .before .least .ensures) _ _ (c .if1 .taken)
+    let c4 = c .before .before .before .before in
+    let c19 = c4 .before .before .before .before .before .before .before .before .before .before .before .before .before .before .before in
+    let a = c19 .args in
+    entire-seven (whole c4) (a .limit) (now (a .part)) (now (a .owner)) (c .before .least3 .ensures) (c .before .before .least2 .ensures)
+    (c .before .before .before .least .ensures) _ _ (c .if1 .taken)
 
 slice-reshare-prefix-survey : tie.Need-slice-reshare-prefix-survey
-slice-reshare-prefix-survey c = entire-room (whole (c .before .before .before)) (room c)
+slice-reshare-prefix-survey c = entire-room (whole (c .before .before .before .before)) (room c)
 
 slice-aggregate-survey : tie.Need-slice-aggregate-survey
-slice-aggregate-survey c = sym (length-take-le _ _ (entire-room (whole (c .before .before .before .before)) (room (c .before))))
+slice-aggregate-survey c = sym (length-take-le _ _ (entire-room (whole (c .before .before .before .before .before)) (room (c .before))))
 
 slice-relend-prefix-survey : tie.Need-slice-relend-prefix-survey
 slice-relend-prefix-survey c = room (c .before) .parts
@@ -84,7 +87,7 @@ slice-aggregate-survey-3 : tie.Need-slice-aggregate-survey-3
 slice-aggregate-survey-3 c = sym (length-take-le _ _ (room (c .before .before .before) .owners))
 
 survey-requires : tie.Need-survey-requires
-survey-requires c κs = entire-tables (whole (c .before .before .before .before .before .before)) (room (c .before .before .before))
+survey-requires c κs = entire-tables (whole (c .before .before .before .before .before .before .before)) (room (c .before .before .before))
 
 enum-told : tie.Need-enum-told
 enum-told c = search needs
@@ -101,7 +104,7 @@ returns-4 c =
     let c6 = c4 .before .before in
     let c7 = c6 .before in
     let c11 = c7 .before .before .before .before in
-    let c14 = c11 .before .before .before in
+    let c14 = c11 .before .before .before .before in
     let s = c7 .survey in
     entire-passes (whole c14) (room c11) (s .last .1 .1 .0) (s .last .1 .1 .1 .0) _ _
     (c6 .part .given .0) (c4 .owner .given .0) (c .before .enum-told .given .1) (s .ensures) (c .finished .ensures)
@@ -110,7 +113,7 @@ returns-5 : tie.Need-returns-5
 returns-5 c =
     let c8 = c .before .before .before .before .before .before .before .before in
     let c12 = c8 .before .before .before .before in
-    let c15 = c12 .before .before .before in
+    let c15 = c12 .before .before .before .before in
     entire-stops (whole c15) (room c12) _ _ _ _ (c .before .before .c3 .given .1) (c8 .survey .ensures) (c .refused3 .ensures)
 
 pub examine-spec : {M : Type 1} → statement M
@@ -118,7 +121,7 @@ examine-spec =
     tie.close
     (tie.spec
     open-requires (search needs) (search needs) (search needs) refused-requires returns walk-requires (search needs)
-    (search needs) (search needs) refused-requires-2 (search needs) returns-2 least-requires least-requires-2 (search needs)
+    (search needs) (search needs) refused-requires-2 (search needs) returns-2 least-requires least-requires-2 (search needs) (search needs)
     returns-3 slice-reshare-prefix-survey slice-aggregate-survey slice-relend-prefix-survey slice-aggregate-survey-2
     slice-relend-prefix-survey-2 slice-aggregate-survey-3 survey-requires enum-told finished-requires (search needs)
     (search needs) refused-requires-3 (search needs) (search needs) (search needs) returns-4 (search needs) (search needs)
