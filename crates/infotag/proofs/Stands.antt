@@ -12,6 +12,7 @@ use Rattle.wire.specs.Check.{All}
 use Rattle.wire.specs.Equal.{eqBytes}
 use Rattle.wire.specs.Number.{numAt}
 use Rattle.wire.proofs.Equal.{same-eq}
+use Rattle.wire.proofs.Patches.{repeated-at}
 use Rattle.classname.specs.Find.{firstIn}
 use Rattle.classname.specs.Name.{classes, nameOf, classOf}
 use Rattle.classname.specs.declared.find.First.{First}
@@ -60,11 +61,6 @@ each-set P (t ∷ ts) zero o h f (suc d) = f (suc d)
 each-set P (t ∷ ts) (suc c) o h f zero = f zero
 each-set P (t ∷ ts) (suc c) o h f (suc d) = each-set (λ i. P (suc i)) ts c o h (λ i. f (suc i)) d
 
-zeros : (n c : ℕ) → getD (replicate {A = ℕ} n 0) c 0 ≡ 0
-zeros zero c = refl
-zeros (suc n) zero = refl
-zeros (suc n) (suc c) = zeros n c
-
 module _ (s : List ℕ) (rec : ℕ) where
   -- the new tag of class c stands at the offset o, where that is not 0
   abbrev Stands : ℕ → ℕ → Type 0
@@ -75,7 +71,7 @@ module _ (s : List ℕ) (rec : ℕ) where
   TagsStand ts = (c : ℕ) → Stands c (getD ts c 0)
 
   pub none-stand : (n : ℕ) → TagsStand (replicate n 0)
-  none-stand n c h = absurd (h (zeros n c))
+  none-stand n c h = absurd (h (repeated-at 0 n c))
 
   -- a tag at p that was taken
   abbrev Taken : ℕ → Tag → Type 0

@@ -5,6 +5,7 @@ use mathlib.Core.Logic.{_⊎_, inl, ⊎-elim}
 use mathlib.Core.Path.{_≡_, refl, sym, ap, _∙_, subst}
 use native.Mathlib.Omega.{arith}
 use lib.ListN.{length, getD, replicate, length-replicate}
+use Rattle.wire.proofs.Patches.{repeated-at}
 use Rattle.fileheader.specs.declared.FileHead.{FileHead}
 use Rattle.rules.specs.Partition.{Partition}
 use Rattle.rules.specs.Rules.{Directory}
@@ -21,11 +22,6 @@ pub map-at : (f : ℕ → ℕ) (xs : List ℕ) (i : ℕ) → i < length xs → g
 map-at f [] i l = absurd (omega arith)
 map-at f (x ∷ xs) zero l = refl
 map-at f (x ∷ xs) (suc i) l = map-at f xs i (omega arith)
-
-zeros-at : (n i : ℕ) → getD (replicate {A = ℕ} n 0) i 0 ≡ 0
-zeros-at zero i = refl
-zeros-at (suc n) zero = refl
-zeros-at (suc n) (suc i) = zeros-at n i
 
 early-mark : (k : ℕ) → Early k → (Directory k → ⊥) × (8 ≤ k → k ≡ 9)
 early-mark k =
@@ -48,8 +44,8 @@ module _ (s : List ℕ) (h : FileHead) (qs : List ℕ) (p : Partition s 100 (len
   begins = record {
     parts = length-map (firstPart s h) qs;
     owners = length-replicate (length qs) 0;
-    fixed = λ i l b. (ap final (is-first i l), zeros-at (length qs) i);
-    alone = λ i l e. zeros-at (length qs) i;
+    fixed = λ i l b. (ap final (is-first i l), repeated-at 0 (length qs) i);
+    alone = λ i l e. repeated-at 0 (length qs) i;
     back = λ i l b n. absurd (n (is-first i l ∙ b));
     done = λ i l d. absurd (early-mark (firstPart s h (getD qs i 0)) (first-early s h (getD qs i 0)) .0 (subst Directory (is-first i l) d));
     shape = λ i l k. inl (is-first i l ∙ early-mark (firstPart s h (getD qs i 0)) (first-early s h (getD qs i 0)) .1
@@ -63,4 +59,4 @@ module _ (s : List ℕ) (h : FileHead) (qs : List ℕ) (p : Partition s 100 (len
   unfolding graph
   begin-agrees gs hs w all i l n =
       let f = w .fixed i l (λ e. n (is-first i l ∙ e)) in
-      (ap final (is-first i l) ∙ sym (f .0) ∙ final-low (getD gs i 0) (all i l), zeros-at (length qs) i ∙ sym (f .1))
+      (ap final (is-first i l) ∙ sym (f .0) ∙ final-low (getD gs i 0) (all i l), repeated-at 0 (length qs) i ∙ sym (f .1))

@@ -10,6 +10,7 @@ use Rattle.wire.specs.Lent.{Lent, LentOf, before, after}
 use Rattle.wire.specs.declared.Answer.{Answer}
 use Rattle.wire.proofs.Checks.{below-or}
 use Rattle.wire.proofs.Numbers.{lesser-within}
+use Rattle.wire.proofs.Patches.{repeated-at}
 use Rattle.key.specs.Piece.{sizeAt, pieceAt, sizeOf}
 use Rattle.key.specs.declared.piece.Piece.{Piece}
 use Rattle.key.proofs.Pieces.{View, no-size, no-key, a-record, a-gap, view}
@@ -34,13 +35,8 @@ size-is s p = go (view s p)
 
 -- an entry of a list that is filled up with what is told past its end
 module _ {A : Type 0} (d : A) where
-  past : (k i : ℕ) → getD (replicate k d) i d ≡ d
-  past zero i = refl
-  past (suc k) zero = refl
-  past (suc k) (suc i) = past k i
-
   filled-at : (xs : List A) (k i : ℕ) → getD (xs ++ replicate k d) i d ≡ getD xs i d
-  filled-at [] k i = past k i
+  filled-at [] k i = repeated-at d k i
   filled-at (x ∷ xs) k zero = refl
   filled-at (x ∷ xs) k (suc i) = filled-at xs k i
 

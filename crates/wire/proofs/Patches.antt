@@ -1,11 +1,11 @@
--- Laws of `patch`: bytes written over a part of a buffer.
-use Prim.Native.Nat.{ℕ, _+_, _-_, _<_, _≤_}
+-- Laws of `patch`: bytes written over a part of a buffer; and one of a list that repeats one thing.
+use Prim.Native.Nat.{ℕ, zero, suc, _+_, _-_, _<_, _≤_}
 use mathlib.Core.List.{List, [], _∷_, _++_, append-assoc, append-nil}
-use mathlib.Core.Path.{_≡_, ap, _∙_}
+use mathlib.Core.Path.{_≡_, refl, ap, _∙_}
 use native.Mathlib.Nat.{zero-add, add-zero, add-assoc}
 use native.Mathlib.Numerals.{add-one}
 use native.Mathlib.Omega.{arith}
-use lib.ListN.{length, take, drop, set, length-append, length-take, length-drop, drop-of-length-le, take-append-drop}
+use lib.ListN.{length, getD, take, drop, set, replicate, length-append, length-take, length-drop, drop-of-length-le, take-append-drop}
 use lib.Seq.{take-all, take-at, drop-at, drop-drop, set-split, length-take-le}
 use borrow.Rule.Slice.PartMut.{midOf, putMid}
 use Rattle.wire.specs.Patch.{patch}
@@ -78,3 +78,9 @@ pub part-then : (b : List ℕ) (at : ℕ) (x y : List ℕ) (k : ℕ) {w ys : Lis
 part-then b at x y k {w} {ys} p e l h =
     let m : length w ≡ length b = ap length p ∙ length-patch b at x (omega arith) in
     patch-then b at x y p (patch-part w ys y k (omega arith) h ∙ ap (λ (i : ℕ). patch w i y) e) (omega arith)
+
+-- an entry, where the same is told past the end
+pub repeated-at : {A : Type 0} (d : A) (n i : ℕ) → getD (replicate n d) i d ≡ d
+repeated-at d zero i = refl
+repeated-at d (suc n) zero = refl
+repeated-at d (suc n) (suc i) = repeated-at d n i
