@@ -4,24 +4,38 @@
  * Link librootmap.a, which `host/install PREFIX` puts in place, or target/staticlib/libcapi.a, which
  * `rt staticlib capi` writes: they are the same. For x86-64 Linux.
  *
- * Every function that answers returns a number, ROOTMAP_PASSED for success, and writes *place and
- * *count in every case. The numbers are named below. Only ROOTMAP_PASSED is a pass: whatever else
- * rootmap_audit or rootmap_view returns, ROOTMAP_UNFINISHED too, says nothing good of the file.
+ * Every function that audits, reads, writes or packs returns a number, ROOTMAP_PASSED for success, and
+ * writes *place and *count in every case. The numbers are named below. Only ROOTMAP_PASSED is a pass:
+ * whatever else rootmap_audit or rootmap_view returns, ROOTMAP_UNFINISHED too, says nothing good of the
+ * file.
  *
  * A pass is no checksum: the data of objects are not looked into.
  *
- * What the caller owes: no pointer is null, not even one of length 0, so lend the address of any
- * object of the type where there is nothing to lend; each points to as many items as is said,
- * aligned for their type; memory that a function writes overlaps nothing else that the call is
- * given; and nobody else writes to any of it during the call. Nothing is kept after a call, nothing
- * is allocated, and there is no shared state: any number of threads may call at once, each with
- * memory of its own to be written.
+ * What the caller owes: a pointer that goes with a length points to as many items as that says, and
+ * where the length is 0 it may be NULL, as nothing is read or written through it; every other pointer
+ * points to what its type says and is not NULL; all are aligned for their type; memory that a function
+ * writes overlaps nothing else that the call is given; and nobody else writes to any of it during the
+ * call. Nothing is kept after a call, nothing is allocated, and there is no shared state: any number of
+ * threads may call at once, each with memory of its own to be written.
+ *
+ * A header and a library of two versions do not belong together, and the linker does not see it. Ask
+ * before the first call, and take nothing that the library answers for a pass if they differ:
+ *
+ *     if (rootmap_version() != ROOTMAP_VERSION)
+ *         return 0;
  */
 #ifndef ROOTMAP_H
 #define ROOTMAP_H
 
 #include <stddef.h>
 #include <stdint.h>
+
+/*
+ * The version of this header and of the library that it describes. It goes up by one at each change of
+ * what a function answers for some input, and at each change of what this header declares, a new
+ * function included: one number names one interface with its answers. CHANGELOG.md has each.
+ */
+#define ROOTMAP_VERSION 7
 
 /* The numbers that the functions return. */
 #define ROOTMAP_PASSED 0      /* success */
@@ -60,6 +74,24 @@
 #define ROOTMAP_PART_DIR 6      /* the same, a directory */
 #define ROOTMAP_PART_UNLISTED 7 /* a record that no directory lists: no fault */
 
+/* The fields that rootmap_read_piece gives of a piece. */
+#define ROOTMAP_PIECE_KIND 0       /* ROOTMAP_KIND_RECORD or ROOTMAP_KIND_GAP; 0 where it is refused */
+#define ROOTMAP_PIECE_NBYTES 1     /* of a gap, its size */
+#define ROOTMAP_PIECE_VERSION 2    /* this and all below: 0 for a gap */
+#define ROOTMAP_PIECE_OBJLEN 3
+#define ROOTMAP_PIECE_DATIME 4
+#define ROOTMAP_PIECE_KEYLEN 5     /* at most 32,767 */
+#define ROOTMAP_PIECE_CYCLE 6      /* as its 16 stored bits, 0 to 65535 */
+#define ROOTMAP_PIECE_SEEK_KEY 7
+#define ROOTMAP_PIECE_SEEK_PDIR 8
+#define ROOTMAP_PIECE_CLASS 9      /* where the first byte of the class stands, after its length */
+#define ROOTMAP_PIECE_CLASS_LEN 10
+#define ROOTMAP_PIECE_NAME 11
+#define ROOTMAP_PIECE_NAME_LEN 12
+#define ROOTMAP_PIECE_TITLE 13
+#define ROOTMAP_PIECE_TITLE_LEN 14
+#define ROOTMAP_PIECE_FIELDS 15    /* how many there are */
+
 /* What rootmap_read_piece gives as the kind of a piece. */
 #define ROOTMAP_KIND_RECORD 1
 #define ROOTMAP_KIND_GAP 2
@@ -67,6 +99,9 @@
 #ifdef __cplusplus
 extern "C" {
 #endif
+
+/* The version of the library: ROOTMAP_VERSION of the header that describes it. */
+uint64_t rootmap_version(void);
 
 /*
  * Packs a date: year 1995 to 2058, month 0 to 15, day and hour 0 to 31, minute and second 0 to 63.
@@ -84,24 +119,17 @@ void rootmap_unpack_date(uint32_t packed, uint32_t fields[6]);
 /*
  * Reads the piece at offset `at` of a whole file. Every `at` is taken.
  *
- * A record: 0, place 0, count its size, and fields holds
- *    0  1
- *    1  Nbytes     2  Version    3  ObjLen     4  Datime     5  KeyLen
- *    6  Cycle, as its 16 stored bits (0 to 65535)
- *    7  SeekKey    8  SeekPdir
- *    9  class start   10  class length
- *   11  name start    12  name length
- *   13  title start   14  title length
- * where a start is the offset in the file of the first byte of the string's content, after its
- * length, which takes one byte, or five (the byte 255, then four) where it is 255 or more. KeyLen is
- * at most 32,767.
+ * A record: 0, place 0, count its size, and fields holds what ROOTMAP_PIECE_KIND to
+ * ROOTMAP_PIECE_TITLE_LEN name. Where a string stands is the offset in the file of the first byte of
+ * its content, after its length, which takes one byte, or five (the byte 255, then four) where it is
+ * 255 or more.
  *
- * A gap: 0, place 0, count its size, and fields holds 2, the size, and thirteen zeros.
+ * A gap: 0, place 0, count its size, and fields holds ROOTMAP_KIND_GAP, the size, and thirteen zeros.
  *
  * Refused: 5 or 6, place `at`, count 0, and fields holds fifteen zeros.
  */
-uint64_t rootmap_read_piece(const uint8_t *file, size_t file_len, uint64_t at, uint64_t fields[15],
-                            uint64_t *place, uint64_t *count);
+uint64_t rootmap_read_piece(const uint8_t *file, size_t file_len, uint64_t at,
+                            uint64_t fields[ROOTMAP_PIECE_FIELDS], uint64_t *place, uint64_t *count);
 
 /*
  * Writes a plain key header into buf at seek_key. Its version is 1 to 2000; above 1000 SeekKey and

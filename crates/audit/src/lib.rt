@@ -48,8 +48,8 @@ fn examine(
     }
 }
 
-// Audits a file, with room for no more pieces than a limit. On a pass row i of the tables is start, part and owner of piece i,
-// later entries are 0; on a refusal all entries are 0.
+// Audits a file: the verdict, which means what the third demand says, for the least of a limit and the tables' lengths. On a pass row i of
+// the tables is start, part and owner of piece i, later entries are 0; on a refusal all entries are 0.
 pub fn audit_within(
     file: &[u8],
     start: &mut [u64],

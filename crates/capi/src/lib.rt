@@ -2,6 +2,7 @@
 // pointer and a length. The number is returned; place and count are written in every case.
 ghost use mathlib.Core.Path.{_≡_};
 ghost use Rattle.wire.specs.Lent.{before, after};
+ghost use Rattle.version.specs.Version.{libraryVersion};
 ghost use Rattle.date.specs.Date.{Packs};
 ghost use Rattle.key.specs.Writer.{Writes};
 ghost use Rattle.streamer.specs.Info.{Informs};
@@ -14,6 +15,14 @@ use key::header::Key;
 use key::piece::Piece;
 use view::Row;
 use wire::number::Bits;
+
+// The version of the library.
+#[no_mangle]
+pub extern "C" fn rootmap_version() -> u64
+    ensures { λ r. ⌜ r ≡ libraryVersion ⌝ }
+{
+    version::current()
+}
 
 // Packs a date: 0 and the packed value as count, or 18.
 #[no_mangle]
@@ -209,7 +218,8 @@ fn audit_limited(
     seen.number
 }
 
-// Audits a whole file with the list's length for room too, and shows the rows in the list: start, size, part and owner of each piece.
+// Audits a whole file with the list's length for room too, and shows the rows in the list: start, size, part and owner of each piece, then
+// zeros.
 #[no_mangle]
 pub extern "C" fn rootmap_view(
     file: &[u8],

@@ -23,8 +23,8 @@ fn size_at(file: &[u8], at: usize) -> Outcome
     }
 }
 
-// Walks the chain and writes each piece's start to the table, as far as there is room. A file too short for a chain is
-// 1 at 0, and leaves the table as it was.
+// The number of the pieces that fill the file from 100 on, or the refusal of the first that is none; writes the starts before it, as far as
+// there is room. A file too short for a chain is 1 at 0, and leaves the table as it was.
 pub fn walk(file: &[u8], start: &mut [u64]) -> Outcome
     ensures { λ r. ⌜ Walks (before file) (before start) (after start) r ⌝ }
 {

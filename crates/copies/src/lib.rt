@@ -62,8 +62,8 @@ fn mark_of(file: &[u8], k: Key) -> u64
     5
 }
 
-// Tests a copy of a keys list: it is the copy of a record of the partition that the directory owns. The row that is looked at
-// first changes nothing.
+// Tests a copy of a keys list: part and owner that it gives its record, or 12 at the list or 13 at the copy, as the order has them for
+// starts that rise; whichever row is looked at first.
 pub fn test_copy(file: &[u8], start: &[u64], list: Span, at: usize, near: usize) -> Entry
     ensures { λ r. ⌜ Tests (before file) (before start) list at r ⌝ }
 {
@@ -92,7 +92,8 @@ pub fn test_copy(file: &[u8], start: &[u64], list: Span, at: usize, near: usize)
     })
 }
 
-// The record of a directory's keys list, by its place and size.
+// The keys list of a directory: none, part and owner that it gives its own record, or 12 at SeekKeys, as the order has them for starts that
+// rise.
 pub fn find_list(file: &[u8], start: &[u64], dir: u64, head: DirHead) -> Keys
     ensures { λ r. ⌜ Finds (before file) (before start) dir head r ⌝ }
 {

@@ -13,7 +13,7 @@ pub struct Date {
     pub second: u32,
 }
 
-// The 32 bits of a date; 18 for a field out of its range.
+// The 32 bits of a date, which unpack to the same date; 18 for a field out of its range.
 pub fn pack_date(d: Date) -> Answer
     ensures { λ r. ⌜ Packs d r ⌝ }
 {
@@ -53,7 +53,7 @@ pub fn pack_date(d: Date) -> Answer
     finished(packed as u64)
 }
 
-// The six fields of any 32 bits.
+// The six fields of any 32 bits; packed, they give the same 32 bits.
 pub fn unpack_date(v: u32) -> Date
     ensures { λ r. ⌜ Unpacks v r ⌝ }
 {

@@ -86,7 +86,7 @@ fn head_dir(s: &[u8], at: usize, end: usize, nbytesname: u32) -> Dir
     Dir::Held(d)
 }
 
-// The head: a plain unpacked record of class TFile at 100, and its directory header.
+// The head: a plain unpacked record of class TFile at 100, and its directory header; else 8 at 100.
 pub fn read_head(file: &[u8], nbytesname: u32) -> Dir
     ensures { λ r. ⌜ Gives headAnswer r (headIn (before file) nbytesname) ⌝ }
 {
@@ -107,7 +107,7 @@ pub fn read_head(file: &[u8], nbytesname: u32) -> Dir
     )
 }
 
-// A subdirectory's header, which follows its key, for a listing directory.
+// A subdirectory's header, which follows its key, for a listing directory; else 11 at the subdirectory.
 pub fn read_sub(file: &[u8], at: usize, parent: usize) -> Dir
     ensures { λ r. ⌜ Gives (subAnswer at) r (subIn (before file) at parent) ⌝ }
 {

@@ -54,7 +54,7 @@ fn end_fits(wide: bool, end: usize) -> bool
     end <= 1999999999
 }
 
-// The header of a whole file, or 1 to 4.
+// The header of a whole file, or the first of 1 to 4 that it breaks, at 0.
 pub fn open(file: &[u8]) -> Opened
     ensures { λ r. ⌜ Gives openAnswer r (openedAs (before file)) ⌝ }
 {

@@ -139,7 +139,7 @@ fn match_segments(
     is_final(file, at, end, wide)
 }
 
-// Whether the free list rule holds.
+// Whether the free list rule holds, for starts that rise.
 pub fn check_free(file: &[u8], start: &[u64], head: FileHead) -> bool
     ensures { λ r. ⌜ (Rises (before start) → r ≡ freeHolds (before file) (before start) head) ⌝ }
 {

@@ -74,7 +74,7 @@ fn read_named(file: &[u8], at: usize, end: usize) -> Named
     }
 }
 
-// A TStreamerInfo after its tag, up to its array: where that starts, and the end of the object.
+// A TStreamerInfo after its tag, up to its array: where that starts, and the end of the object; or the first fault.
 pub fn read_class(file: &[u8], at: usize, end: usize) -> Opened
     ensures { λ r. ⌜ r ≡ classBodyAt (before file) at end ⌝ }
 {
@@ -183,7 +183,7 @@ fn own(file: &[u8], kind: usize, at: usize, end: usize) -> Step
     Step::Next(at)
 }
 
-// An element after its tag.
+// An element of any kind after its tag: the places of its name and type name, fType, fArrayLength and the place after; or the first fault.
 pub fn read_member(file: &[u8], kind: usize, at: usize, end: usize) -> Member
     ensures { λ r. ⌜ r ≡ memberAt (before file) kind at end ⌝ }
 {

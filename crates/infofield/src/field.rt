@@ -32,7 +32,7 @@ pub enum Opened {
     Wrong(u32, usize),
 }
 
-// How far a place lies behind another.
+// How far a place lies behind another, 0 where it does not.
 pub fn offset(from: usize, at: usize) -> usize
     ensures { λ r. ⌜ r ≡ at - from ⌝ }
 {
@@ -42,7 +42,7 @@ pub fn offset(from: usize, at: usize) -> usize
     at - from
 }
 
-// The ByteCount at a place, within the innermost open end.
+// The ByteCount at a place, within the innermost open end: the place after it and the object's end, or bad.
 pub fn open(file: &[u8], at: usize, end: usize) -> Count
     ensures { λ r. ⌜ r ≡ countAt (before file) at end ⌝ }
 {
@@ -67,7 +67,7 @@ pub fn open(file: &[u8], at: usize, end: usize) -> Count
     Count::Open(at + 4, at + 4 + size)
 }
 
-// A field of so many bytes.
+// A field of so many bytes: the place after it, or 21 at the field where it ends past end.
 pub fn field(size: usize, at: usize, end: usize) -> Step
     ensures { λ r. ⌜ r ≡ fieldAt size at end ⌝ }
 {
@@ -80,7 +80,7 @@ pub fn field(size: usize, at: usize, end: usize) -> Step
     Step::Next(at + size)
 }
 
-// The ByteCount and the version of an object.
+// The ByteCount and the version of an object: the place after them and its end, or 21 at the first fault.
 pub fn versioned(file: &[u8], at: usize, end: usize) -> Opened
     ensures { λ r. ⌜ r ≡ versionedAt (before file) at end ⌝ }
 {
@@ -93,7 +93,7 @@ pub fn versioned(file: &[u8], at: usize, end: usize) -> Opened
     }
 }
 
-// So many numbers of four bytes.
+// So many numbers of four bytes: the place after them, or 21 at the first that ends past end.
 pub fn numbers(count: usize, at: usize, end: usize) -> Step
     ensures { λ r. ⌜ r ≡ numbersAt count at end ⌝ }
 {
@@ -110,7 +110,7 @@ pub fn numbers(count: usize, at: usize, end: usize) -> Step
     Step::Next(place)
 }
 
-// A string with its length.
+// A string with its length: the place after it, or 21 at one of another form or past end.
 pub fn text(file: &[u8], at: usize, end: usize) -> Step
     ensures { λ r. ⌜ r ≡ textFieldAt (before file) at end ⌝ }
 {
@@ -120,7 +120,7 @@ pub fn text(file: &[u8], at: usize, end: usize) -> Step
     Step::Next(t.next)
 }
 
-// The name of a list or an array, which has none: a length byte 0.
+// The name of a list or an array, which has none: a length byte 0, else 21.
 pub fn unnamed(file: &[u8], at: usize, end: usize) -> Step
     ensures { λ r. ⌜ r ≡ unnamedAt (before file) at end ⌝ }
 {
@@ -134,7 +134,7 @@ pub fn unnamed(file: &[u8], at: usize, end: usize) -> Step
     Step::Next(t.next)
 }
 
-// A number of four bytes that is 0.
+// A number of four bytes that is 0, else 21.
 pub fn zero(file: &[u8], at: usize, end: usize) -> Step
     ensures { λ r. ⌜ r ≡ zeroAt (before file) at end ⌝ }
 {
@@ -148,7 +148,7 @@ pub fn zero(file: &[u8], at: usize, end: usize) -> Step
     r
 }
 
-// A TObject that is not referenced.
+// A TObject: 21 at a field that ends past end, 23 at its bits where it is referenced.
 pub fn object(file: &[u8], at: usize, end: usize) -> Step
     ensures { λ r. ⌜ r ≡ objectAt (before file) at end ⌝ }
 {
@@ -170,7 +170,7 @@ pub fn object(file: &[u8], at: usize, end: usize) -> Step
     r
 }
 
-// An object's content stops where the object ends.
+// An object's content stops where the object ends, else 21 where it stops.
 pub fn ended(at: usize, end: usize) -> Step
     ensures { λ r. ⌜ r ≡ endedAt at end ⌝ }
 {

@@ -64,7 +64,8 @@ fn read_collection(file: &[u8], at: usize, end: usize) -> Collection
     }
 }
 
-// A TObjArray after its tag, up to its objects: its ByteCount, what every collection starts with, and a lower bound of 0.
+// A TObjArray after its tag, up to its objects: its ByteCount, what every collection starts with, and a lower bound of 0; or the first
+// fault, 21 or 23 at the field.
 pub fn read_array(file: &[u8], at: usize, end: usize) -> Collection
     ensures { λ r. ⌜ r ≡ arrayBodyAt (before file) at end ⌝ }
 {
@@ -110,7 +111,8 @@ fn no_record(piece: Piece, at: usize) -> Collection
     }
 }
 
-// The list that fills the data of the StreamerInfo record at a place.
+// The list that fills the data of the StreamerInfo record at a place; or 5 or 6 as for a piece, 20 for no such record, 19 for a packed one,
+// then the first fault.
 pub fn read_list(file: &[u8], at: usize) -> Collection
     ensures { λ r. ⌜ r ≡ infoListAt (before file) at ⌝ }
 {
@@ -130,7 +132,8 @@ pub fn read_list(file: &[u8], at: usize) -> Collection
     whole_list(file, at + keylen as usize, at + nbytes as usize)
 }
 
-// The option after an object of a list of this Version: the place after it.
+// The option after an object of a list of this Version: the place after it, or 21 at it. None below 4; in 4 a length byte 0 to 255; from 5
+// on a string.
 pub fn read_option(file: &[u8], version: u32, at: usize, end: usize) -> Step
     ensures { λ r. ⌜ r ≡ optionAt version (before file) at end ⌝ }
 {

@@ -29,7 +29,7 @@ fn put_six(part: &mut [u32], row: Row)
     part[5] = row.length;
 }
 
-// Writes a row, where there is room for it.
+// Writes the six numbers of row n, where there is room for all; nothing else is changed.
 pub fn put_row(table: &mut [u32], n: usize, row: Row)
     ensures { λ _. ⌜ after table ≡ putRow (before table) n row ⌝ }
 {

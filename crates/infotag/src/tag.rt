@@ -153,7 +153,8 @@ fn read_tag(
     old_tag(v, at, next, low, high, tags)
 }
 
-// The ByteCount and the tag of an object of a class from low to high.
+// The ByteCount and the tag of an object of a class from low to high: its class, where the class's new tag stands, the place after and the
+// end; or 21 at the ByteCount or a tag that is cut, 22 at the tag of an unknown, repeated or misplaced class.
 pub fn read_head(
     file: &[u8],
     rec: usize,

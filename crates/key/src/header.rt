@@ -21,14 +21,14 @@ pub const MOST_KEYLEN: usize = 32767;
 // The sum is worked out up to this, which no number of 32 bits reaches.
 const SUM_BOUND: usize = 4294967296;
 
-// The bytes of a header before its strings, by its Version.
+// The bytes of a header before its strings, 26 or 34 by its Version.
 pub fn fixed_part(version: u32) -> usize
     ensures { λ r. ⌜ (r ≡ fixedPart (offsetWidth version)) × (r ≤ 34) ⌝ }
 {
     18 + 2 * width(1000 < version)
 }
 
-// The sum of a header with this Version and strings of these lengths, of any size, up to the bound.
+// The sum of a header with this Version and strings of these lengths, or 4294967296 where it is greater.
 pub fn sum_for(version: u32, class: usize, name: usize, title: usize) -> usize
     ensures { λ r. ⌜ r ≡ boundedSum version class name title ⌝ }
 {
@@ -165,8 +165,7 @@ pub fn is_formed(nbytes: u32, version: u32, objlen: u32, keylen: u32, sum: usize
     true
 }
 
-// The header at a place, read within the bytes before end: well formed, or bad; bad too where end is past the slice. No header has
-// fewer than the 26 bytes of the narrow numbers and a length byte, so that its Version is read only where they are there.
+// The header at a place, read within the bytes before end: well formed, or bad; bad too where end is past the slice.
 pub fn read_header(s: &[u8], at: usize, end: usize) -> Header
     ensures { λ r. ⌜ r ≡ headerIn (before s) at end ⌝ }
 {
@@ -176,6 +175,7 @@ pub fn read_header(s: &[u8], at: usize, end: usize) -> Header
     if end <= at {
         return Header::Bad;
     }
+    // No header is shorter than the narrow numbers and a length byte: its Version is read only where it is there.
     if end - at <= 26 {
         return Header::Bad;
     }

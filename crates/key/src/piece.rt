@@ -12,7 +12,8 @@ pub enum Piece {
     Refused(u32, usize),
 }
 
-// The piece at any place of a file.
+// The piece at any place of a file: a record with its fields and where its strings stand, a gap with its size, or 5 or 6 at the place. A
+// plain record, written with these, gives the KeyLen bytes that stand there.
 pub fn read_piece(file: &[u8], at: usize) -> Piece
     ensures { λ r. ⌜ Reads (before file) at r ⌝ }
 {

@@ -31,8 +31,8 @@ fn holds_keys(file: &[u8], class: Text) -> bool
     is_directory(file, class)
 }
 
-// The data of the keys list at a place: plain, unpacked, of class TFile or TDirectory, of this size, and its
-// SeekPdir is the directory's place.
+// The data of the keys list at a place: plain, unpacked, of class TFile or TDirectory, of this size, and its SeekPdir is the directory's
+// place; else 12 at the list.
 pub fn read_list(file: &[u8], at: usize, nbytes: u32, dir: usize) -> Data
     ensures { λ r. ⌜ Gives (listAnswer at) r (listIn (before file) at nbytes dir) ⌝ }
 {
@@ -54,7 +54,7 @@ pub fn read_list(file: &[u8], at: usize, nbytes: u32, dir: usize) -> Data
     Data::Held(at + k.keylen as usize, at + k.nbytes as usize)
 }
 
-// The data of the free list at a place: plain, unpacked, of class TFile, of this size.
+// The data of the free list at a place: plain, unpacked, of class TFile, of this size; else 9 at the place.
 pub fn read_free(file: &[u8], at: usize, nbytes: u32) -> Data
     ensures { λ r. ⌜ Gives (freeAnswer at) r (freeIn (before file) at nbytes) ⌝ }
 {
@@ -86,7 +86,7 @@ pub fn is_info(file: &[u8], at: usize, nbytes: u32) -> bool
     is_info_key(file, k)
 }
 
-// The header copy at a place of a list, read within the list's end: well formed and plain, or bad.
+// The header copy at a place of a list, read within the list's end: well formed and plain, or bad: 12 at the list.
 pub fn read_copy(file: &[u8], at: usize, end: usize) -> Header
     ensures { λ r. ⌜ GivesCopy (before file) at end r ⌝ }
 {

@@ -8,22 +8,22 @@ use report::write_report;
 use report::write_text;
 use wire::Answer;
 
-// A buffer for the input.
+// Zeros for the input: one more than the 32,768 bytes that are taken.
 pub fn input_buffer() -> [u8; 32769]
     ensures { λ r. ⌜ r ≡ replicate inputRoom 0 ⌝ }
 {
     [0; 32769]
 }
 
-// A buffer for the text.
+// 73,800 zeros, which hold every text.
 pub fn text_buffer() -> [u8; 73800]
     ensures { λ r. ⌜ r ≡ replicate textRoom 0 ⌝ }
 {
     [0; 73800]
 }
 
-// Writes the list of a file's pieces at the front of a buffer, and counts its bytes. 17, and nothing is written, where
-// the buffer cannot hold it.
+// Writes the list of a file's pieces, audited with tables of 1,024 rows, or that the input is too long, at the front of a buffer, and
+// counts its bytes. 17, and nothing is written, where the buffer cannot hold it.
 pub fn list(file: &[u8], out: &mut [u8]) -> Answer
     ensures { λ r. ⌜ Lists (before file) (before out) (after out) r ⌝ }
 {

@@ -21,7 +21,7 @@ pub fn is_plain(k: Key) -> bool
     k.keylen as usize == sum_for(k.version, class.len, name.len, title.len)
 }
 
-// Whether the data is not packed.
+// Whether the data is not packed: ObjLen and KeyLen make Nbytes.
 pub fn is_unpacked(k: Key) -> bool
     ensures { λ r. ⌜ r ≡ all (unpackedData k) ⌝ }
 {
@@ -69,12 +69,14 @@ fn is_name(s: &[u8], t: Text, name: &[u8]) -> bool
     same(&s[start..start + len], name)
 }
 
+// Whether a string of a file is TFile.
 pub fn is_file(s: &[u8], t: Text) -> bool
     ensures { λ r. ⌜ r ≡ named (before s) t tFile ⌝ }
 {
     is_name(s, t, b"TFile")
 }
 
+// Whether a string of a file is TDirectory.
 pub fn is_directory(s: &[u8], t: Text) -> bool
     ensures { λ r. ⌜ r ≡ named (before s) t tDirectory ⌝ }
 {

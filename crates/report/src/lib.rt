@@ -49,8 +49,7 @@ pub fn write_text(text: &[u8], out: &mut [u8]) -> Answer
     finished(n as u64)
 }
 
-// Writes the report of an audit's answer and tables, for a file of end bytes, at the front of a buffer, and counts its
-// bytes. 17, and nothing is written, where the buffer cannot hold it: 72 bytes a line always do.
+// The same of the report of an audit's answer and tables, for a file of end bytes: 72 bytes a line always hold it.
 pub fn write_report(
     a: Answer,
     start: &[u64],

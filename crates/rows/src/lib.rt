@@ -10,7 +10,7 @@ pub enum Row {
     Nothing,
 }
 
-// The row whose start is the place.
+// The row whose start is the place; where the starts rise, none only if there is none.
 pub fn find_row(start: &[u64], place: usize) -> Row
     ensures { λ r. ⌜ RowOf (before start) place r ⌝ }
 {
@@ -31,7 +31,7 @@ pub fn find_row(start: &[u64], place: usize) -> Row
     Row::Nothing
 }
 
-// The same, where the row is likely to be this one.
+// The same, whichever row is looked at first.
 pub fn seek_row(start: &[u64], place: usize, near: usize) -> Row
     ensures { λ r. ⌜ RowOf (before start) place r ⌝ }
 {

@@ -29,7 +29,7 @@ pub fn gap_size(file: &[u8], at: usize) -> usize
     }
 }
 
-// The part of a piece before the first directory is taken.
+// The part of a piece before the first directory is taken; the head, found and not done, has its part plus 8.
 pub fn part_at(file: &[u8], place: u64, head: FileHead) -> u64
     ensures { λ r. ⌜ r ≡ firstPart (before file) head place ⌝ }
 {
@@ -58,7 +58,7 @@ pub fn is_nothing(seek: u64, nbytes: u32) -> bool
     nbytes == 0
 }
 
-// Whether the info rule holds.
+// Whether the info rule holds, for starts that rise.
 pub fn check_info(file: &[u8], start: &[u64], head: FileHead) -> bool
     ensures { λ r. ⌜ (Rises (before start) → r ≡ infoHolds (before file) (before start) head) ⌝ }
 {

@@ -60,7 +60,8 @@ fn row_at<'f, 'a>(
     }
 }
 
-// Shows the tables in the list, entry by entry to the list's end.
+// Shows the tables in the list, entry by entry to the list's end, 0 past a table's end; each with the size that the bytes at its start
+// give.
 pub fn show<'f, 'a, 'b>(
     file: &'f [u8],
     start: &'a [u64],

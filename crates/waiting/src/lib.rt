@@ -95,7 +95,7 @@ fn lowest(start: &[u64], part: &[u64], number: usize) -> Waiting
     }
 }
 
-// Gives a row a part without the mark.
+// Gives a row a part without the mark; no other row's part changes, and what was kept for a row that did not wait stays right.
 pub fn give(part: &mut [u64], row: usize, new: u64)
     ensures { λ _. ⌜ Gives part row new ⌝ }
 {
@@ -105,7 +105,8 @@ pub fn give(part: &mut [u64], row: usize, new: u64)
     part[row] = part[row] / 16 * 16 + new % 8;
 }
 
-// A directory is found in a row.
+// A directory is found in a row: its part gets the mark. Where what was kept was right, so is what is told: row and place of the lowest
+// that waits, and how many there are.
 pub fn found(start: &[u64], part: &mut [u64], row: usize, w: Waiting) -> Waiting
     ensures { λ r. ⌜ Finds start part row w r ⌝ }
 {
@@ -118,7 +119,7 @@ pub fn found(start: &[u64], part: &mut [u64], row: usize, w: Waiting) -> Waiting
     lowest(start, part, least(w.number, n - 1) + 1)
 }
 
-// The directory in a row is done.
+// The directory in a row is done: its part loses the mark, and what is told is as for one found.
 pub fn settle(start: &[u64], part: &mut [u64], row: usize, w: Waiting) -> Waiting
     ensures { λ r. ⌜ Settles start part row w r ⌝ }
 {

@@ -70,7 +70,7 @@ pub fn be64(s: &[u8], at: usize) -> u64
     word(s, at) as u64 * 4294967296 + word(s, at + 4) as u64
 }
 
-// The bytes of an offset, in the wide form or not.
+// The bytes of an offset: eight in the wide form, else four.
 pub fn width(wide: bool) -> usize
     ensures { λ r. ⌜ (r ≡ widthOf wide) × (4 ≤ r) × (r ≤ 8) ⌝ }
 {
@@ -80,7 +80,7 @@ pub fn width(wide: bool) -> usize
     4
 }
 
-// The greatest offset.
+// The greatest offset of eight bytes in the wide form, else of four.
 pub fn greatest(wide: bool) -> u64
     ensures { λ r. ⌜ r + 1 ≡ 256 ^ widthOf wide ⌝ }
 {
@@ -126,7 +126,7 @@ pub enum Bits {
     Wide,
 }
 
-// The 16 bits of a signed number.
+// The 16 bits of a signed number, or that they do not hold it.
 pub fn bits_of(z: i32) -> Bits
     ensures { λ r. ⌜ r ≡ bits16 z ⌝ }
 {

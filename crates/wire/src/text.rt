@@ -28,7 +28,7 @@ pub enum Found {
     Cut,
 }
 
-// The bytes before those of a string of n bytes.
+// The bytes before those of a string of n bytes: 1, or 5 from 255 on.
 pub fn prefix_size(n: usize) -> usize
     ensures { λ r. ⌜ (r ≡ prefixSize n) × (r ≤ 5) ⌝ }
 {

@@ -66,8 +66,9 @@ fn put_header(
     put_names(&mut part[fixed..], class, name, title);
 }
 
-// Writes a header at the place SeekKey of a buffer. Refused: 15 for a sum above 32,767, 16 for a header
-// that is not well formed or a value that does not fit its field, 17 for a record that the buffer cannot hold.
+// Writes a header at the place SeekKey of a buffer and nothing else; the reader finds there what was written. Refused with the buffer
+// unchanged: 15 for a sum above 32,767, 16 for a header that is not well formed or a value that does not fit its field, 17 for a record
+// that the buffer cannot hold.
 pub fn write_key(f: Fields, class: &[u8], name: &[u8], title: &[u8], buf: &mut [u8]) -> Answer
     ensures { λ r. ⌜ Writes f (before class) (before name) (before title) (before buf) (after buf) r ⌝ }
 {
