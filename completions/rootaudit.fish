@@ -1,0 +1,12 @@
+# Made by host/run-docs.
+complete -c rootaudit -l rows -d 'after a pass, a line a piece'
+complete -c rootaudit -l json -d 'an object of JSON a line'
+complete -c rootaudit -l quiet -d 'print only what is no pass, and the last line'
+complete -c rootaudit -l read -d 'fetch every byte too, and report a read error'
+complete -c rootaudit -l expect -x -d 'status 2 unless N different files are named, so that a missing night is noticed'
+complete -c rootaudit -l html -r -F -d 'write a page about the one file that is named'
+complete -c rootaudit -s j -x -d 'audit up to N files at once, 1 to 1024, and 1 if it is not said'
+complete -c rootaudit -s r -x -a '(__fish_complete_directories)' -d 'audit every file below a folder, in the order of the bytes of their paths'
+complete -c rootaudit -l files0-from -r -F -d 'take the names of all files from F, a NUL after or between them, as find -print0 writes them'
+complete -c rootaudit -s h -l help -d 'print the help'
+complete -c rootaudit -l version -d 'print the version 0.N.0, where N is that of the library, which of the requests that change verdicts (CHANGELOG.md) are in, the commit and the toolchain'

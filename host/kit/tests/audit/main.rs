@@ -1,0 +1,17 @@
+//! The audit and its rows for a viewer.
+
+mod audit;
+mod audit_copies;
+mod audit_faults;
+mod audit_files;
+mod audit_gaps;
+mod audit_large;
+mod audit_order;
+mod audit_waiting;
+mod audit_wide;
+mod long_strings_audit;
+mod second_audit;
+mod shapes;
+mod threads;
+mod view;
+mod wide_header;

@@ -1,0 +1,36 @@
+//! The second program: an implementation of its own, from the papers alone. It shares nothing with the proved library but
+//! the papers, and imports nothing of the other packages.
+//!
+//! - `number`, `part`, `answer`: what is answered.
+//! - `bytes`, `width`, `date`, `key`: numbers and strings, packed dates, key headers, pieces and the key writer.
+//! - `audit`, `rules`: the audit, and the rules for a pass once more, written naively.
+//! - `view`: an audit's rows as a viewer has them.
+//! - `streamer`: the StreamerInfo reader.
+//! - `fast`: audit and StreamerInfo reader once more, written for speed.
+
+#![forbid(unsafe_code)]
+
+/// Names for 0, 1, 2 and so on.
+macro_rules! counted {
+    ($($name:ident)*) => { counted! { 0; $($name)* } };
+    ($value:expr; $name:ident $($rest:ident)*) => {
+        pub const $name: u64 = $value;
+        counted! { $value + 1; $($rest)* }
+    };
+    ($value:expr;) => {};
+}
+
+pub mod answer;
+pub mod audit;
+pub mod bytes;
+pub mod date;
+pub mod fast;
+pub mod key;
+pub mod number;
+pub mod part;
+pub mod rules;
+pub mod streamer;
+pub mod view;
+pub mod width;
+
+pub use answer::Answer;
