@@ -7,6 +7,7 @@ mod rootaudit_fakes;
 mod rootaudit_fault;
 mod rootaudit_files;
 mod rootaudit_gaps;
+mod rootaudit_growth;
 mod rootaudit_jobs;
 mod rootaudit_json;
 mod rootaudit_large;
