@@ -1,10 +1,13 @@
 -- The walk over a partition, and the table that its starts are written to.
 use Prim.Native.Nat.{ℕ, suc, _+_, _≤_, _<_}
+use mathlib.Core.Bool.{Bool, true}
 use mathlib.Core.List.{List, [], _∷_, _++_, append-assoc}
 use mathlib.Core.Path.{_≡_, refl, sym, ap, _∙_}
 use native.Mathlib.Omega.{arith}
 use lib.ListN.{length, drop, set, getD, length-append, length-take, length-drop, drop-of-length-le}
 use lib.Seq.{take-all, drop-cons, set-at, take-append-le}
+use Rattle.wire.specs.Number.{numAt}
+use Rattle.key.specs.Short.{Certain}
 use Rattle.key.specs.Piece.{pieceAt, sizeOf, answerOf, pieceAnswer}
 use Rattle.key.specs.declared.piece.Piece.{Piece}
 use Rattle.key.specs.declared.piece.Piece.the-variants.{Record, Gap, Refused}
@@ -14,6 +17,10 @@ use Rattle.rules.proofs.Partitions.{snoc}
 use Rattle.chain.specs.Walk.{stepOf, over, Walked, walkAnswer, Walks}
 use Rattle.chain.specs.declared.Outcome.{Outcome}
 use Rattle.chain.specs.declared.Outcome.the-variants.{Whole, Fault}
+
+-- a record with short strings has the size that stands there
+pub short-step : (s : List ℕ) (p : ℕ) {n : ℕ} {b : Bool} → n ≡ numAt 4 s p → Certain s p b → b ≡ true → Whole n ≡ stepOf (pieceAt s p)
+short-step s p e f h = let r = f h in ap Whole (e ∙ sym (r .2)) ∙ ap stepOf (sym (r .1))
 
 -- the table
 pub length-over : (qs t : List ℕ) → length (over qs t) ≡ length t

@@ -1,10 +1,12 @@
-// The chain of pieces from 100 to the end. The public function takes any input and has no precondition.
+// The chain of pieces from 100 to the end. Every public function takes any input and has no precondition.
 ghost use mathlib.Core.Path.{_≡_};
 ghost use Rattle.wire.specs.Lent.{before, after};
 ghost use Rattle.key.specs.Piece.{pieceAt};
 ghost use Rattle.chain.specs.Walk.{stepOf, Walks};
 use key::piece::Piece;
 use key::piece::read_piece;
+use key::short::is_short;
+use wire::number::be32;
 
 // A count, of a piece's bytes or of a walk's pieces, or the first refusal.
 pub enum Outcome {
@@ -12,10 +14,13 @@ pub enum Outcome {
     Fault(u32, usize),
 }
 
-// The size of the piece at a place, or the refusal there.
-fn size_at(file: &[u8], at: usize) -> Outcome
+// The size of the piece at a place, or the refusal there: 5 or 6, and the place. A record with short strings is not taken apart.
+pub fn size_at(file: &[u8], at: usize) -> Outcome
     ensures { λ r. ⌜ r ≡ stepOf (pieceAt (before file) at) ⌝ }
 {
+    if is_short(file, at) {
+        return Outcome::Whole(be32(file, at) as usize);
+    }
     match read_piece(file, at) {
         Piece::Record(k) => Outcome::Whole(k.nbytes as usize),
         Piece::Gap(n) => Outcome::Whole(n as usize),

@@ -3,6 +3,7 @@ pub mod Names
 pub mod Others
 pub mod Pieces
 pub mod RoundTrips
+pub mod Shorts
 pub mod Sums
 pub mod WriteAgain
 pub mod Writes

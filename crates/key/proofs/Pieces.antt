@@ -7,6 +7,7 @@ use mathlib.Core.Path.{_≡_, refl, sym, ap, _∙_}
 use native.Mathlib.Omega.{arith}
 use borrow.Author.Tests.{lt-ltb, le-ltb, eq-eqb, ne-eqb, eqb-true}
 use lib.Dec.{eqb}
+use lib.IntN.{natAbs}
 use Rattle.wire.specs.Check.{All, pick}
 use Rattle.wire.specs.Number.{numAt, signedOf}
 use Rattle.key.specs.Header.{headerIn}
@@ -21,19 +22,32 @@ use Rattle.wire.proofs.Checks.{yes-all, not-all, all-or, below-or, false-true}
 use Rattle.key.specs.Header.{widthAt, keyAt}
 use Rattle.key.proofs.Headers.{Formed, namesOf, placed, from-good}
 
+-- the size for a number: a number below 2^31 gives a record, any other a gap
+pub plus : (n : ℕ) → n < 2147483648 → natAbs (signedOf 4 n) ≡ n
+unfolding signedOf
+plus n h = rw (lt-ltb (n + n) 4294967296 (omega arith))
+
+pub minus : (n : ℕ) → 2147483648 ≤ n → n < 4294967296 → natAbs (signedOf 4 n) ≡ 4294967296 - n
+unfolding signedOf
+minus n h l = rw (le-ltb (n + n) 4294967296 (omega arith)) (omega arith)
+
 module _ (s : List ℕ) (p : ℕ) where
-  -- a number below 2^31 gives a record, any other a gap
   pub size-plus : numAt 4 s p < 2147483648 → sizeAt s p ≡ numAt 4 s p
-  unfolding sizeAt signedOf
-  size-plus h = rw (lt-ltb (numAt 4 s p + numAt 4 s p) 4294967296 (omega arith))
+  unfolding sizeAt
+  size-plus h = plus (numAt 4 s p) h
 
   pub is-record : numAt 4 s p < 2147483648 → recordThere s p ≡ true
   unfolding recordThere signedOf
   is-record h = rw (lt-ltb (numAt 4 s p + numAt 4 s p) 4294967296 (omega arith))
 
   pub size-minus : 2147483648 ≤ numAt 4 s p → numAt 4 s p < 4294967296 → sizeAt s p ≡ 4294967296 - numAt 4 s p
-  unfolding sizeAt signedOf
-  size-minus h l = rw (le-ltb (numAt 4 s p + numAt 4 s p) 4294967296 (omega arith)) (omega arith)
+  unfolding sizeAt
+  size-minus h l = minus (numAt 4 s p) h l
+
+  -- the size, from the number that was read
+  pub size-read : {n m : ℕ} → n ≡ numAt 4 s p → m ≡ natAbs (signedOf 4 n) → m ≡ sizeAt s p
+  unfolding sizeAt
+  size-read e h = h ∙ ap (λ (n : ℕ). natAbs (signedOf 4 n)) e
 
   pub is-gap : 2147483648 ≤ numAt 4 s p → recordThere s p ≡ false
   unfolding recordThere signedOf

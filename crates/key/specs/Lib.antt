@@ -1,3 +1,4 @@
 pub mod Header
 pub mod Piece
+pub mod Short
 pub mod Writer

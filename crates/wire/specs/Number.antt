@@ -31,6 +31,31 @@ pub record Word (s : List ℕ) (p r : ℕ) : Type 0 where
   pub third : getD s (p + 2) 0 ≤ 255
   pub fourth : getD s (p + 3) 0 ≤ 255
 
+-- r is the little-endian number of the two bytes at p
+pub record LittlePair (s : List ℕ) (p r : ℕ) : Type 0 where
+  pub value : r ≡ getD s p 0 + getD s (p + 1) 0 * 256
+  pub first : getD s p 0 ≤ 255
+  pub second : getD s (p + 1) 0 ≤ 255
+
+-- a number of two bytes the other way round
+abbrev pub turnedPair : ℕ → ℕ
+turnedPair x = x % 256 * 256 + x / 256
+
+-- the little-endian number of the four bytes at p
+abbrev pub littleOf : List ℕ → ℕ → ℕ
+littleOf s p = getD s p 0 + getD s (p + 1) 0 * 256 + getD s (p + 2) 0 * 65536 + getD s (p + 3) 0 * 16777216
+
+pub record Little (s : List ℕ) (p r : ℕ) : Type 0 where
+  pub value : r ≡ littleOf s p
+  pub first : getD s p 0 ≤ 255
+  pub second : getD s (p + 1) 0 ≤ 255
+  pub third : getD s (p + 2) 0 ≤ 255
+  pub fourth : getD s (p + 3) 0 ≤ 255
+
+-- a number of four bytes the other way round
+abbrev pub turnedOf : ℕ → ℕ
+turnedOf x = x % 256 * 16777216 + x / 256 % 256 * 65536 + x / 65536 % 256 * 256 + x / 16777216
+
 -- the lesser of two numbers
 abbrev pub lesser : ℕ → ℕ → ℕ
 lesser a b = pick (leb a b) a b

@@ -4,7 +4,7 @@ ghost use Prim.Native.Nat.{_<_, _≤_, _+_, _^_};
 ghost use lib.ListN.{length};
 ghost use Rattle.wire.specs.Layout.{widthOf};
 ghost use Rattle.wire.specs.Lent.{before};
-ghost use Rattle.wire.specs.Number.{numAt, Word, lesser, signedOf, bits16};
+ghost use Rattle.wire.specs.Number.{numAt, Word, LittlePair, turnedPair, Little, turnedOf, lesser, signedOf, bits16};
 
 fn wide(b: u8) -> u32
     ensures { λ r. ⌜ (r ≡ b) × (r ≤ 255) ⌝ }
@@ -23,6 +23,21 @@ pub fn be8(s: &[u8], at: usize) -> u32
     wide(byte)
 }
 
+// The little-endian number of 2 bytes that are there: the compiler makes one load of it.
+fn little_pair(s: &[u8], at: usize) -> u32
+    requires { ⌜ at + 2 ≤ length (now s) ⌝ }
+    ensures { λ r. ⌜ LittlePair (before s) at r ⌝ }
+{
+    wide(s[at]) + wide(s[at + 1]) * 256
+}
+
+// The number of the same 2 bytes the other way round.
+fn turned_pair(x: u32) -> u32
+    ensures { λ r. ⌜ r ≡ turnedPair x ⌝ }
+{
+    x % 256 * 256 + x / 256
+}
+
 // The number of 2 bytes at a place; 0 unless both are there.
 pub fn be16(s: &[u8], at: usize) -> u32
     ensures { λ r. ⌜ (r ≡ numAt 2 (before s) at) × (r < 65536) ⌝ }
@@ -33,7 +48,22 @@ pub fn be16(s: &[u8], at: usize) -> u32
     if s.len() - 2 < at {
         return 0;
     }
-    wide(s[at]) * 256 + wide(s[at + 1])
+    turned_pair(little_pair(s, at))
+}
+
+// The little-endian number of 4 bytes that are there: the compiler makes one load of it.
+fn little(s: &[u8], at: usize) -> u32
+    requires { ⌜ at + 4 ≤ length (now s) ⌝ }
+    ensures { λ r. ⌜ Little (before s) at r ⌝ }
+{
+    wide(s[at]) + wide(s[at + 1]) * 256 + wide(s[at + 2]) * 65536 + wide(s[at + 3]) * 16777216
+}
+
+// The number of the same 4 bytes the other way round: the compiler makes one instruction of it.
+fn turned(x: u32) -> u32
+    ensures { λ r. ⌜ r ≡ turnedOf x ⌝ }
+{
+    x % 256 * 16777216 + x / 256 % 256 * 65536 + x / 65536 % 256 * 256 + x / 16777216
 }
 
 // The number of 4 bytes that are there.
@@ -41,7 +71,7 @@ pub(crate) fn word(s: &[u8], at: usize) -> u32
     requires { ⌜ at + 4 ≤ length (now s) ⌝ }
     ensures { λ r. ⌜ Word (before s) at r ⌝ }
 {
-    wide(s[at]) * 16777216 + wide(s[at + 1]) * 65536 + wide(s[at + 2]) * 256 + wide(s[at + 3])
+    turned(little(s, at))
 }
 
 // The number of 4 bytes at a place; 0 unless all are there.
