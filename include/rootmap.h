@@ -7,7 +7,8 @@
  * Every function that audits, reads, writes or packs returns a number, ROOTMAP_PASSED for success, and
  * writes *place and *count in every case. The numbers are named below. Only ROOTMAP_PASSED is a pass:
  * whatever else rootmap_audit or rootmap_view returns, ROOTMAP_UNFINISHED too, says nothing good of the
- * file.
+ * file. That rootmap_salvage succeeds is no pass, and that rootmap_audit_salvaged passes says nothing of
+ * what was lost.
  *
  * A pass is no checksum: the data of objects are not looked into.
  *
@@ -35,7 +36,7 @@
  * what a function answers for some input, and at each change of what this header declares, a new
  * function included: one number names one interface with its answers. CHANGELOG.md has each.
  */
-#define ROOTMAP_VERSION 7
+#define ROOTMAP_VERSION 8
 
 /* The numbers that the functions return. */
 #define ROOTMAP_PASSED 0      /* success */
@@ -63,6 +64,7 @@
 #define ROOTMAP_TAG 22        /* a class tag in the info record is unknown, repeated or misplaced */
 #define ROOTMAP_REFERENCED 23 /* an object in the info record is referenced */
 #define ROOTMAP_ROWS 24       /* there are more elements than rows */
+#define ROOTMAP_SALVAGE 27    /* no gap covers what breaks the chain: too few bytes are left, or it would be too great */
 
 /* The parts that an audit gives to the pieces of a file. */
 #define ROOTMAP_PART_GAP 0
@@ -188,6 +190,36 @@ struct rootmap_row {
 uint64_t rootmap_view(const uint8_t *file, size_t file_len, uint64_t *start, size_t start_len,
                       uint64_t *part, size_t part_len, uint64_t *owner, size_t owner_len,
                       struct rootmap_row *list, size_t list_len, uint64_t *place, uint64_t *count);
+
+/*
+ * Gives back what follows a break of the chain. At the first place p where no piece stands, as
+ * rootmap_audit tells it with 5 or 6, a gap is written that ends at q: the lowest place from p + 4 on
+ * from which pieces fill the file to its end, or the end itself. Nothing else is looked at or mended: what
+ * the gap covers is lost, and is still in the lists that name it. Keep the file as it was.
+ *
+ * Success: 0, place p, count q, and the four bytes of buf from p on are written and no others. Where the
+ * chain is good place and count are both the file's length, and buf is as it was.
+ *
+ * Refused: 1 to 4, place 0; else 27, place p: fewer than 4 bytes are left from p on, or the gap would have
+ * more than 2,147,483,648. Count is 0, and buf is as it was.
+ *
+ * seen is a scratch, a bit for each place that may be tried. It may have any length and hold anything: neither
+ * changes the answer. With buf_len / 8 + 1 bytes there are at most twice as many steps as bytes. With fewer
+ * the places that have no bit may be read again and again, which on damaged bytes can take as many steps as
+ * the square of their number. All of it is zeros afterwards.
+ */
+uint64_t rootmap_salvage(uint8_t *buf, size_t buf_len, uint8_t *seen, size_t seen_len, uint64_t *place,
+                         uint64_t *count);
+
+/*
+ * Audits a salvaged file: as rootmap_audit does, but the segments of the free list, of which a salvaged gap
+ * is none, are not compared with the gaps. All else of the list is looked at: its record, the number of its
+ * segments, their versions and widths, and the final one. What rootmap_audit passes, this passes with the
+ * same rows. A pass is no pass by rootmap_audit.
+ */
+uint64_t rootmap_audit_salvaged(const uint8_t *file, size_t file_len, uint64_t *start, size_t start_len,
+                                uint64_t *part, size_t part_len, uint64_t *owner, size_t owner_len,
+                                uint64_t *place, uint64_t *count);
 
 /*
  * Reads the unpacked StreamerInfo record at offset `at` of a whole file into a table of rows of six

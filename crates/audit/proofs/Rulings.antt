@@ -11,7 +11,7 @@ use Rattle.directory.specs.declared.Dir.the-variants as dir
 use Rattle.directory.specs.declared.DirHead.{DirHead}
 use Rattle.fileheader.specs.declared.FileHead.{FileHead}
 use Rattle.table.specs.Table.{cleared}
-use Rattle.rules.specs.Free.{freeHolds, infoHolds}
+use Rattle.rules.specs.Free.{Mode, freeHolds, infoHolds}
 use Rattle.rules.specs.Order.{ruled}
 use Rattle.rules.specs.Turn.{firstParts, rounds}
 use Rattle.waiting.specs.Waiting.{Keeps}
@@ -37,22 +37,22 @@ refused : (b n : Bool) → b ≡ n → not b ≡ true → n ≡ false
 refused true n e h = absurd (subst T (sym h) tt)
 refused false n e h = sym e
 
-module _ (s : List ℕ) (h : FileHead) (qs us vs : List ℕ) where
-  pub no-head : dir.Bad ≡ headIn s (h .nbytesname) → Ran (ruled s h qs) (Fault 8 100) us vs
+module _ (mode : Mode) (s : List ℕ) (h : FileHead) (qs us vs : List ℕ) where
+  pub no-head : dir.Bad ≡ headIn s (h .nbytesname) → Ran (ruled mode s h qs) (Fault 8 100) us vs
   unfolding ruled Ran
   no-head e = rw (sym e) (refl, refl)
 
   module _ {dh : DirHead} (e : dir.Held dh ≡ headIn s (h .nbytesname)) where
-    pub no-free : {b : Bool} → b ≡ freeHolds s qs h → not b ≡ true → Ran (ruled s h qs) (Fault 9 (h .seekfree)) us vs
+    pub no-free : {b : Bool} → b ≡ freeHolds mode s qs h → not b ≡ true → Ran (ruled mode s h qs) (Fault 9 (h .seekfree)) us vs
     unfolding ruled Ran
     no-free f g = rw (sym e, refused _ _ f g) (refl, refl)
 
-    module _ (f : freeHolds s qs h ≡ true) where
-      pub no-info : {b : Bool} → b ≡ infoHolds s qs h → not b ≡ true → Ran (ruled s h qs) (Fault 10 (h .seekinfo)) us vs
+    module _ (f : freeHolds mode s qs h ≡ true) where
+      pub no-info : {b : Bool} → b ≡ infoHolds s qs h → not b ≡ true → Ran (ruled mode s h qs) (Fault 10 (h .seekinfo)) us vs
       unfolding ruled Ran
       no-info i g = rw (sym e, f, refused _ _ i g) (refl, refl)
 
       pub go-on : (r : Listed) (ps os : List ℕ) → infoHolds s qs h ≡ true → ps ≡ firstParts s h qs → os ≡ zeros (length qs)
-          → Ran (rounds s h qs (length qs) ps os 0) r us vs → Ran (ruled s h qs) r us vs
+          → Ran (rounds s h qs (length qs) ps os 0) r us vs → Ran (ruled mode s h qs) r us vs
       unfolding ruled
       go-on r ps os g i j k = rw (sym e, f, g, sym i, sym j) k

@@ -19,6 +19,7 @@ use Rattle.fileheader.specs.declared.FileHead.{FileHead}
 use Rattle.fileheader.specs.declared.Opened.the-variants as opened
 use Rattle.wire.specs.Number.{lesser}
 use Rattle.table.specs.Table.{filled, cleared}
+use Rattle.rules.specs.Free.{Mode}
 use Rattle.rules.specs.Order.{Chain, chain, ruled, Verdict, passed, refused, onTurn, onChain, onOpened, verdict, numberOf, startsOf, partsOf, ownersOf}
 use Rattle.rules.specs.Partition.{Partition}
 use Rattle.rules.specs.Turn.{Turn}
@@ -27,7 +28,7 @@ use Rattle.rules.proofs.Chains.{chain-whole, chain-fault}
 use Rattle.rules.proofs.Demands.{demand}
 use Rattle.audit.specs.Listing.{Ran, Sized}
 use Rattle.audit.specs.Examined.{Answers, Begins, Filled}
-use Rattle.audit.specs.Tables.{roomOf, roomIn, AuditsIn, Audits, toldWithin, AuditsWithin}
+use Rattle.audit.specs.Tables.{roomOf, roomIn, AuditsIn, room, toldWithin, AuditsWithin}
 use Rattle.chain.specs.Walk.{over, Walked}
 use Rattle.chain.specs.declared.Outcome.{Outcome}
 use Rattle.waiting.specs.declared.Waiting.{Waiting}
@@ -42,31 +43,31 @@ abbrev pub Examined : Verdict → Answer → List ℕ → List ℕ → List ℕ 
 Examined v a t u w = Answers v a × Filled v t u w
 
 -- the verdict by cases
-module _ (s : List ℕ) (room : ℕ) where
-  verdict-header : {c : ℕ} → openedAs s ≡ opened.Refused c → verdict s room ≡ refused c 0 0
+module _ (mode : Mode) (s : List ℕ) (room : ℕ) where
+  verdict-header : {c : ℕ} → openedAs s ≡ opened.Refused c → verdict mode s room ≡ refused c 0 0
   unfolding verdict
-  verdict-header e = ap (onOpened s room) e
+  verdict-header e = ap (onOpened mode s room) e
 
   module _ {h : FileHead} (good : openedAs s ≡ opened.Good h) where
-    by-chain : {r : Chain} → chain s (length s) 100 ≡ r → verdict s room ≡ onChain s room h r
+    by-chain : {r : Chain} → chain s (length s) 100 ≡ r → verdict mode s room ≡ onChain mode s room h r
     unfolding verdict
-    by-chain e = ap (onOpened s room) good ∙ ap (onChain s room h) e
+    by-chain e = ap (onOpened mode s room) good ∙ ap (onChain mode s room h) e
 
     long : length s < length s + 100
     long = omega arith
 
     verdict-fault : {c p : ℕ} (qs : List ℕ) → Partition s 100 p qs → p < length s → pieceAt s p ≡ piece.Refused c p
-        → verdict s room ≡ refused c p 0
+        → verdict mode s room ≡ refused c p 0
     verdict-fault {c} {p} qs h l e = by-chain (chain-fault s 100 qs p (length s) c h l e long)
 
     module _ (qs : List ℕ) (entire : Partition s 100 (length s) qs) where
-      by-room : verdict s room ≡ pick (leb (length qs) room) (onTurn qs (ruled s h qs)) (refused 7 0 (length qs))
+      by-room : verdict mode s room ≡ pick (leb (length qs) room) (onTurn qs (ruled mode s h qs)) (refused 7 0 (length qs))
       by-room = by-chain (chain-whole s 100 qs (length s) entire long)
 
-      verdict-seven : room < length qs → verdict s room ≡ refused 7 0 (length qs)
+      verdict-seven : room < length qs → verdict mode s room ≡ refused 7 0 (length qs)
       verdict-seven l = by-room ∙ rw (lt-leb (length qs) room l)
 
-      verdict-turn : {t : Turn} → length qs ≤ room → ruled s h qs ≡ t → verdict s room ≡ onTurn qs t
+      verdict-turn : {t : Turn} → length qs ≤ room → ruled mode s h qs ≡ t → verdict mode s room ≡ onTurn qs t
       verdict-turn l e = by-room ∙ rw (le-leb (length qs) room l, e)
 
 -- what is told of a refusal and of a pass
@@ -89,15 +90,15 @@ module _ {v : Verdict} (t u w : List ℕ) where
         record { starts = a; parts = b; owners = c; eachPart = l; eachOwner = k; counted = λ z. refl },
       )
 
-pub header-refused : (s : List ℕ) (room : ℕ) {c : ℕ} {a : Answer} (t u w : List ℕ) → opened.Refused c ≡ openedAs s
-    → a ≡ refusal c 0 → Examined (verdict s room) a t u w
-header-refused s room t u w e g = told-fault t u w (verdict-header s room (sym e)) g
+pub header-refused : (mode : Mode) (s : List ℕ) (room : ℕ) {c : ℕ} {a : Answer} (t u w : List ℕ) → opened.Refused c ≡ openedAs s
+    → a ≡ refusal c 0 → Examined (verdict mode s room) a t u w
+header-refused mode s room t u w e g = told-fault t u w (verdict-header mode s room (sym e)) g
 
-pub chain-refused : (s : List ℕ) (room : ℕ) {h : FileHead} {c p : ℕ} {r : Outcome} {a : Answer} (t u v w : List ℕ)
-    → opened.Good h ≡ openedAs s → r ≡ outcome.Fault c p → Walked s t u r → a ≡ refusal c p → Examined (verdict s room) a u v w
-chain-refused s room t u v w o e k g =
+pub chain-refused : (mode : Mode) (s : List ℕ) (room : ℕ) {h : FileHead} {c p : ℕ} {r : Outcome} {a : Answer} (t u v w : List ℕ)
+    → opened.Good h ≡ openedAs s → r ≡ outcome.Fault c p → Walked s t u r → a ≡ refusal c p → Examined (verdict mode s room) a u v w
+chain-refused mode s room t u v w o e k g =
     let f = subst (Walked s t u) e k in
-    told-fault u v w (verdict-fault s room (sym o) (f .0) (f .1) (f .2) (f .3)) g
+    told-fault u v w (verdict-fault mode s room (sym o) (f .0) (f .1) (f .2) (f .3)) g
 
 -- the room, as it was computed once the starts were written
 room-is : (m : ℕ) (t u v w : List ℕ) {a b c : ℕ} → length u ≡ length t → a ≡ lesser m b → b ≡ lesser (length u) c
@@ -140,11 +141,11 @@ module _ {s : List ℕ} {h : FileHead} {t u : List ℕ} {n : ℕ} (k : Entire s 
     pub entire-fits : n ≤ a → Fits m n t v w
     entire-fits l = fits m t v w (room-is m t u v w entire-kept e f g) l
 
-    pub entire-seven : (x y : List ℕ) → a < n
-        → Examined (verdict s (roomIn m t v w)) (record { number = 7; place = 0; count = n }) u x y
-    entire-seven x y l =
+    pub entire-seven : (mode : Mode) (x y : List ℕ) → a < n
+        → Examined (verdict mode s (roomIn m t v w)) (record { number = 7; place = 0; count = n }) u x y
+    entire-seven mode x y l =
         let i : roomIn m t v w < length (k .starts) = rw (sym (room-is m t u v w entire-kept e f g), sym (k .count)) l in
-        told-refusal u x y (verdict-seven s (roomIn m t v w) (k .good) (k .starts) (k .partition) i ∙ rw (k .count)) (λ z. absurd (omega arith))
+        told-refusal u x y (verdict-seven mode s (roomIn m t v w) (k .good) (k .starts) (k .partition) i ∙ rw (k .count)) (λ z. absurd (omega arith))
 
   module _ {m : ℕ} {v w : List ℕ} (fit : Fits m n t v w) where
     pub entire-room : n ≤ length u
@@ -160,19 +161,19 @@ module _ {s : List ℕ} {h : FileHead} {t u : List ℕ} {n : ℕ} (k : Entire s 
       owners = rw (entire-starts, length-take-le n w (fit .owners)) (k .count);
     }
 
-    turned : {r : Turn} → ruled s h (take n u) ≡ r → verdict s (roomIn m t v w) ≡ onTurn (k .starts) r
-    turned e = verdict-turn s (roomIn m t v w) (k .good) (k .starts) (k .partition) (rw (sym (k .count)) (fit .room)) ((rw entire-starts at e))
+    turned : (mode : Mode) {r : Turn} → ruled mode s h (take n u) ≡ r → verdict mode s (roomIn m t v w) ≡ onTurn (k .starts) r
+    turned mode e = verdict-turn mode s (roomIn m t v w) (k .good) (k .starts) (k .partition) (rw (sym (k .count)) (fit .room)) ((rw entire-starts at e))
 
-    pub entire-stops : {c q : ℕ} {r : Listed} {a : Answer} (ps os x y : List ℕ) → r ≡ Fault c q → Ran (ruled s h (take n u)) r ps os
-        → a ≡ refusal c q → Examined (verdict s (roomIn m t v w)) a u x y
-    entire-stops ps os x y e r g = told-fault u x y (turned (fault-is (ruled s h (take n u)) ps os e r)) g
+    pub entire-stops : (mode : Mode) {c q : ℕ} {r : Listed} {a : Answer} (ps os x y : List ℕ) → r ≡ Fault c q → Ran (ruled mode s h (take n u)) r ps os
+        → a ≡ refusal c q → Examined (verdict mode s (roomIn m t v w)) a u x y
+    entire-stops mode ps os x y e r g = told-fault u x y (turned mode (fault-is (ruled mode s h (take n u)) ps os e r)) g
 
-    pub entire-passes : {a : ℕ} {b : Waiting} {r : Listed} (ps os x y : List ℕ) → length ps ≡ length (take n v) → length os ≡ length (take n w)
-        → r ≡ Next a b → Ran (ruled s h (take n u)) r ps os → {d : Answer} → d ≡ done n
-        → Examined (verdict s (roomIn m t v w)) d u (ps ++ x) (os ++ y)
-    entire-passes ps os x y a b e r z =
+    pub entire-passes : (mode : Mode) {a : ℕ} {b : Waiting} {r : Listed} (ps os x y : List ℕ) → length ps ≡ length (take n v) → length os ≡ length (take n w)
+        → r ≡ Next a b → Ran (ruled mode s h (take n u)) r ps os → {d : Answer} → d ≡ done n
+        → Examined (verdict mode s (roomIn m t v w)) d u (ps ++ x) (os ++ y)
+    entire-passes mode ps os x y a b e r z =
         told-pass u (ps ++ x) (os ++ y)
-        (turned (next-is (ruled s h (take n u)) ps os e r))
+        (turned mode (next-is (ruled mode s h (take n u)) ps os e r))
         (k .count)
         (ap (λ (i : ℕ). take i u) (sym (k .count)) ∙ entire-starts)
         (take-at ps x (length ps) refl)
@@ -204,30 +205,30 @@ begins-table : (xs t r u : List ℕ) {n : ℕ} → Begins xs t → n ≡ length 
 begins-table xs t r u b e l f = f ∙ rw (e, b, l)
 
 -- once the rest of each table is cleared
-pub audited : (m : ℕ) (file start part owner : Lent) (a : Answer) {n : ℕ} (t u w : List ℕ) → Answers (toldWithin m file start part owner) a
-    → Rows (toldWithin m file start part owner) n t u w → length t ≡ length (before start) → length u ≡ length (before part)
+pub audited : (mode : Mode) (m : ℕ) (file start part owner : Lent) (a : Answer) {n : ℕ} (t u w : List ℕ) → Answers (toldWithin mode m file start part owner) a
+    → Rows (toldWithin mode m file start part owner) n t u w → length t ≡ length (before start) → length u ≡ length (before part)
     → length w ≡ length (before owner) → after start ≡ cleared t n → after part ≡ cleared u n → after owner ≡ cleared w n
-    → AuditsWithin m file start part owner a
-audited m file start part owner a t u w x y i j k d e f = record {
+    → AuditsWithin mode m file start part owner a
+audited mode m file start part owner a t u w x y i j k d e f = record {
   number = x .number;
   place = x .place;
   count = x .count;
   starts = begins-table (startsOf v) t (before start) (after start) (y .filled .starts) (y .count) i d;
   parts = begins-table (partsOf v) u (before part) (after part) (y .filled .parts) (y .count ∙ sym (y .filled .eachPart)) j e;
   owners = begins-table (ownersOf v) w (before owner) (after owner) (y .filled .owners) (y .count ∙ sym (y .filled .eachOwner)) k f;
-  demand = demand (before file) (roomIn m (before start) (before part) (before owner));
+  demand = demand mode (before file) (roomIn m (before start) (before part) (before owner));
 }
   where
     v : Verdict
-    v = toldWithin m file start part owner
+    v = toldWithin mode m file start part owner
 
 -- the first table's length is no limit beside the tables
-pub unlimited : {file start part owner : Lent} {a : Answer} → AuditsWithin (length (before start)) file start part owner a
-    → Audits file start part owner a
-unlimited {file} {start} {part} {owner} {a} k =
+pub unlimited : {mode : Mode} {file start part owner : Lent} {a : Answer} → AuditsWithin mode (length (before start)) file start part owner a
+    → AuditsIn mode (room file start part owner) file start part owner a
+unlimited {mode} {file} {start} {part} {owner} {a} k =
     let v = before part in
     let w = before owner in
     let n = length (before start) in
     let e : lesser n (roomOf (before start) v w) ≡ roomOf (before start) v w =
     sym (lesser-second n (roomOf (before start) v w) (lesser-within n (lesser (length v) (length w)) .0)) in
-    subst (λ (m : ℕ). AuditsIn m file start part owner a) e k
+    subst (λ (m : ℕ). AuditsIn mode m file start part owner a) e k

@@ -5,6 +5,7 @@ use mathlib.Core.Path.{_≡_}
 use lib.ListN.{length, take}
 use Rattle.wire.specs.declared.Answer.{Answer}
 use Rattle.wire.specs.Lent.{Lent, after}
+use Rattle.rules.specs.Free.{Mode}
 use Rattle.rules.specs.Order.{Verdict, numberOf, placeOf, countOf, startsOf, partsOf, ownersOf}
 use Rattle.audit.specs.Tables.{toldWithin}
 
@@ -28,6 +29,6 @@ pub record Filled (v : Verdict) (start part owner : List ℕ) : Type 0 where
   pub eachOwner : length (ownersOf v) ≡ length (startsOf v)
   pub counted : numberOf v ≡ 0 → countOf v ≡ length (startsOf v)
 
-abbrev pub Examines : ℕ → Lent → Lent → Lent → Lent → Answer → Type 0
-Examines limit file start part owner r =
-    let v = toldWithin limit file start part owner in Answers v r × Filled v (after start) (after part) (after owner)
+abbrev pub Examines : Mode → ℕ → Lent → Lent → Lent → Lent → Answer → Type 0
+Examines mode limit file start part owner r =
+    let v = toldWithin mode limit file start part owner in Answers v r × Filled v (after start) (after part) (after owner)

@@ -8,6 +8,7 @@ use Rattle.wire.specs.Lent.{Lent, before, after}
 use Rattle.wire.specs.Number.{lesser}
 use Rattle.table.specs.Table.{filled}
 use Rattle.rules.specs.Demand.{Demand}
+use Rattle.rules.specs.Free.{Mode, compared, apart}
 use Rattle.rules.specs.Order.{Verdict, verdict, numberOf, placeOf, countOf, startsOf, partsOf, ownersOf}
 
 -- "room is the shortest"
@@ -18,10 +19,10 @@ roomOf start part owner = lesser (length start) (lesser (length part) (length ow
 abbrev pub roomIn : ℕ → List ℕ → List ℕ → List ℕ → ℕ
 roomIn limit start part owner = lesser limit (roomOf start part owner)
 
--- what is promised with this room
-module _ (room : ℕ) (file : Lent) where
+-- what an audit promises with this room
+module _ (mode : Mode) (room : ℕ) (file : Lent) where
   abbrev pub toldIn : Verdict
-  toldIn = verdict (before file) room
+  toldIn = verdict mode (before file) room
 
   module _ (start part owner : Lent) where
     pub record AuditsIn (r : Answer) : Type 0 where
@@ -34,25 +35,33 @@ module _ (room : ℕ) (file : Lent) where
       pub parts : after part ≡ filled (partsOf toldIn) (length (before part))
       pub owners : after owner ≡ filled (ownersOf toldIn) (length (before owner))
       -- and the verdict means what the third demand says
-      pub demand : Demand (before file) room
+      pub demand : Demand mode (before file) room
 
 module _ (file start part owner : Lent) where
   abbrev pub room : ℕ
   room = roomOf (before start) (before part) (before owner)
 
   abbrev pub told : Verdict
-  told = toldIn room file
+  told = toldIn compared room file
+
+  -- either audit, with no limit but the tables
+  abbrev pub AuditsFor : Mode → Answer → Type 0
+  AuditsFor mode = AuditsIn mode room file start part owner
 
   abbrev pub Audits : Answer → Type 0
-  Audits = AuditsIn room file start part owner
+  Audits = AuditsFor compared
 
--- the same with a limit beside the tables
-module _ (limit : ℕ) (file start part owner : Lent) where
+  -- the second audit: free segments are not compared with the gaps (document 02, request 10)
+  abbrev pub AuditsSalvaged : Answer → Type 0
+  AuditsSalvaged = AuditsFor apart
+
+-- either audit with a limit beside the tables
+module _ (mode : Mode) (limit : ℕ) (file start part owner : Lent) where
   abbrev pub roomWithin : ℕ
   roomWithin = roomIn limit (before start) (before part) (before owner)
 
   abbrev pub toldWithin : Verdict
-  toldWithin = toldIn roomWithin file
+  toldWithin = toldIn mode roomWithin file
 
   abbrev pub AuditsWithin : Answer → Type 0
-  AuditsWithin = AuditsIn roomWithin file start part owner
+  AuditsWithin = AuditsIn mode roomWithin file start part owner

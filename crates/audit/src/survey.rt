@@ -50,21 +50,22 @@ fn first_parts(file: &[u8], start: &[u64], part: &mut [u64], head: FileHead) -> 
     }
 }
 
-// Head, free list, info, then the directories.
+// Head, free list, info, then the directories; the free list is compared with the gaps, or not.
 pub(crate) fn survey(
     file: &[u8],
     start: &[u64],
     part: &mut [u64],
     owner: &mut [u64],
     head: FileHead,
+    compare: bool,
 ) -> Listed
     requires { ⌜ Sized (now start) (now part) (now owner) ⌝ }
-    ensures { λ r. ⌜ Ran (ruled (before file) head (before start)) r (after part) (after owner) ⌝ }
+    ensures { λ r. ⌜ Ran (ruled compare (before file) head (before start)) r (after part) (after owner) ⌝ }
 {
     let Dir::Held(_) = read_head(file, head.nbytesname) else {
         return Listed::Fault(8, 100);
     };
-    if !check_free(file, start, head) {
+    if !check_free(file, start, head, compare) {
         return Listed::Fault(9, head.seekfree as usize);
     }
     if !check_info(file, start, head) {

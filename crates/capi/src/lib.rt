@@ -6,8 +6,10 @@ ghost use Rattle.version.specs.Version.{libraryVersion};
 ghost use Rattle.date.specs.Date.{Packs};
 ghost use Rattle.key.specs.Writer.{Writes};
 ghost use Rattle.streamer.specs.Info.{Informs};
-ghost use Rattle.audit.specs.Tables.{Audits, AuditsWithin};
+ghost use Rattle.rules.specs.Free.{compared};
+ghost use Rattle.audit.specs.Tables.{Audits, AuditsSalvaged, AuditsWithin};
 ghost use Rattle.view.specs.View.{Views};
+ghost use Rattle.salvage.specs.Salvage.{Salvages};
 ghost use Rattle.capi.specs.Told.{told, dateOf, Unpacked, fieldsOf, storedCycle, recordList, Shows};
 use date::Date;
 use key::header::Fields;
@@ -200,6 +202,25 @@ pub extern "C" fn rootmap_audit(
     v.number
 }
 
+// The second audit, for a file that was salvaged: the same without the comparison of free segments with the gaps, and with nothing else left
+// out.
+#[no_mangle]
+pub extern "C" fn rootmap_audit_salvaged(
+    file: &[u8],
+    start: &mut [u64],
+    part: &mut [u64],
+    owner: &mut [u64],
+    place: &mut u64,
+    count: &mut u64,
+) -> u64
+    ensures { λ r. ⌜ AuditsSalvaged file start part owner (told r place count) ⌝ }
+{
+    let second = audit::audit_salvaged(file, start, part, owner);
+    *place = second.place;
+    *count = second.count;
+    second.number
+}
+
 // Audits with a limit beside the tables, and writes place and count.
 fn audit_limited(
     file: &[u8],
@@ -210,9 +231,9 @@ fn audit_limited(
     place: &mut u64,
     count: &mut u64,
 ) -> u64
-    ensures { λ r. ⌜ AuditsWithin limit file start part owner (told r place count) ⌝ }
+    ensures { λ r. ⌜ AuditsWithin compared limit file start part owner (told r place count) ⌝ }
 {
-    let seen = audit::audit_within(file, start, part, owner, limit);
+    let seen = audit::audit_within(file, start, part, owner, limit, true);
     *place = seen.place;
     *count = seen.count;
     seen.number
@@ -236,4 +257,22 @@ pub extern "C" fn rootmap_view(
     let number = audit_limited(file, start, part, owner, limit, place, count);
     view::show(file, start, part, owner, list);
     number
+}
+
+// Salvages a file whose chain is broken: 0, the first fault p and the place q after it from which pieces fill the file to its end, with a gap
+// from p to q written at p; of a good chain 0, END and END; or 1 to 4, or 27 at p, with the buffer as it was. seen is a scratch, one bit a
+// place, of any length: it changes no answer, and is zeros afterwards.
+#[no_mangle]
+pub extern "C" fn rootmap_salvage(
+    buf: &mut [u8],
+    seen: &mut [u8],
+    place: &mut u64,
+    count: &mut u64,
+) -> u64
+    ensures { λ r. ⌜ Salvages buf seen (told r place count) ⌝ }
+{
+    let found = salvage::salvage(buf, seen);
+    *place = found.place;
+    *count = found.count;
+    found.number
 }

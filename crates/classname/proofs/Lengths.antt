@@ -9,12 +9,12 @@ use lib.ListN.{length, getD, drop, length-take, length-map}
 use lib.Seq.{getD-take, getD-drop}
 use Rattle.wire.specs.Check.{Check, lt, eq, All}
 use Rattle.wire.proofs.Checks.{all-yes, below-or}
+use Rattle.wire.proofs.Every.{each-below}
 use Rattle.classname.specs.Find.{firstIn}
 use Rattle.classname.specs.Name.{classes, nameOf}
 use Rattle.classname.specs.Length.{byLength, shorterIn, shorter, leaves, decidingByte, decidingBytes, chosen, candidateOf, In, Leaves, Decides}
 use Rattle.classname.specs.declared.find.First.{First}
 use Rattle.classname.specs.declared.find.First.the-variants.{At, Nowhere}
-use Rattle.classname.proofs.Every.{each-below}
 use Rattle.classname.proofs.Finds.{first-holds}
 
 abbrev pub lengthOf : ℕ → ℕ

@@ -9,13 +9,13 @@ use Rattle.wire.specs.Check.{Check, le, eq, yes, all, All}
 use Rattle.wire.specs.Equal.{eqBytes}
 use Rattle.wire.specs.Number.{numAt}
 use Rattle.wire.proofs.Checks.{false-true}
+use Rattle.wire.proofs.Every.{every, each-below}
 use Rattle.wire.proofs.Equal.{eq-same, same-eq}
 use Rattle.classname.specs.Find.{firstIn}
 use Rattle.classname.specs.Name.{classes, nameOf, classOf}
 use Rattle.classname.specs.Length.{byLength, shorter, leaves, decidingByte, decidingBytes, chosen, candidateOf, In}
 use Rattle.classname.specs.declared.find.First.{First}
 use Rattle.classname.specs.declared.find.First.the-variants.{At, Nowhere}
-use Rattle.classname.proofs.Every.{every, each-below}
 use Rattle.classname.proofs.Finds.{byte-at, first-within}
 use Rattle.classname.proofs.Lengths.{lengthOf, own-candidate, each-length, candidate-in, row}
 use Rattle.classname.proofs.Names.{each-name}

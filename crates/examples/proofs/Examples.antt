@@ -14,7 +14,7 @@ use Rattle.record.specs.Name.{sameBytes, named}
 use Rattle.fileheader.specs.File.{fileHead, endFits, openedAs}
 use Rattle.directory.specs.Dir.{dirAt, dirIn, keptIf, headDirIn, headIn, dirOf}
 use Rattle.keylist.specs.Keys.{dataIn, freeIn, listClass, listIn, copyIn}
-use Rattle.rules.specs.Free.{segmentsAt, segmentsEnd, segmentVersion, versionsFit, gaps, lastFits, listGaps, freeHolds, infoHolds}
+use Rattle.rules.specs.Free.{segmentsAt, segmentsEnd, segmentVersion, versionsFit, gaps, lastFits, listGaps, heldTo, freeHolds, infoHolds}
 use Rattle.rules.specs.Order.{chain, ruled, verdict}
 use Rattle.rules.specs.Row.{starts}
 use Rattle.rules.specs.Turn.{rowOf, listedMark, copyTurn, copies, dataTurn, keysIn, keysTurn, dirTurn, roundTurn, nextRow, rounds, firstPart}
@@ -36,7 +36,7 @@ unfolding eqBytes widthOf beValue numAt beBytes signedOf bitsOf prefixBytes pref
     textBytes packed packAnswer keyAt namesIn headerIn sizeAt recordThere pieceAt pieceAnswer onRecord headerBytes nameBytes sameBytes
     named fileHead endFits openedAs
     dirAt dirIn keptIf headDirIn headIn dirOf dataIn freeIn listClass listIn copyIn segmentsAt segmentsEnd segmentVersion versionsFit
-    gaps lastFits listGaps freeHolds infoHolds chain ruled verdict starts rowOf listedMark copyTurn copies dataTurn keysIn keysTurn
+    gaps lastFits listGaps heldTo freeHolds infoHolds chain ruled verdict starts rowOf listedMark copyTurn copies dataTurn keysIn keysTurn
     dirTurn roundTurn nextRow rounds firstPart
     andThen fieldAt numbersAt endOf countAt counted versionedAt versioned endedAt textFieldAt unnamedAt zeroAt objectAt firstIn classIn
     classOf classNameAt newTag oldTag tagAt headAt headed namedAt withName classBodyAt detailsAt baseAt withFields counterAt ownAt memberAt

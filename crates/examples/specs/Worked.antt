@@ -16,7 +16,7 @@ use Rattle.key.specs.Header.{sumOf, headerIn}
 use Rattle.key.specs.Piece.{pieceAt, pieceAnswer}
 use Rattle.key.specs.declared.header.Header.{Header}
 use Rattle.key.specs.declared.header.Header.the-variants.{Good, Bad}
-use Rattle.rules.specs.Free.{isGap}
+use Rattle.rules.specs.Free.{compared, apart, isGap}
 use Rattle.rules.specs.Order.{Verdict, verdict, numberOf, placeOf, countOf, startsOf, partsOf, ownersOf}
 use Rattle.rules.specs.Turn.{Turn, going, stop, copyTurn}
 use Rattle.streamer.specs.Info.{infoAnswer, infoTable}
@@ -99,16 +99,18 @@ examples =
     ++ answers (pieceAnswer (0 ∷ 0 ∷ 0 ∷ 0 ∷ []) 0) 5 0 0
     ++ answers (pieceAnswer (128 ∷ 0 ∷ 0 ∷ 0 ∷ []) 0) 5 0 0
     -- 99 bytes is 1; zero bytes is 1
-    ++ says (verdict (replicate 99 0) 5) 1 0 0
-    ++ says (verdict [] 5) 1 0 0
+    ++ says (verdict compared (replicate 99 0) 5) 1 0 0
+    ++ says (verdict compared [] 5) 1 0 0
     -- a copy with KeyLen one above its sum is 12 at its list; a plain one is read, and is 13 where no piece starts at its SeekKey
     ++ stops (copyTurn longCopy [] 100 218 41 [] [] 0) 12 218
     ++ stops (copyTurn (objectKey false 168) [] 100 218 40 [] [] 0) 13 0
     -- one.root, room 5 passes; room 4 is 7 with count 5. Segment 297 to 309 is 9 (document 02, request 01)
-    ++ says (verdict (oneRoot 308) 5) 0 0 5
-    ++ shows (verdict (oneRoot 308) 5) (100 ∷ 168 ∷ 218 ∷ 297 ∷ 309 ∷ []) (1 ∷ 5 ∷ 4 ∷ 0 ∷ 2 ∷ []) (0 ∷ 100 ∷ 100 ∷ 0 ∷ 0 ∷ [])
-    ++ says (verdict (oneRoot 308) 4) 7 0 5
-    ++ says (verdict (oneRoot 309) 5) 9 309 0
+    ++ says (verdict compared (oneRoot 308) 5) 0 0 5
+    ++ shows (verdict compared (oneRoot 308) 5) (100 ∷ 168 ∷ 218 ∷ 297 ∷ 309 ∷ []) (1 ∷ 5 ∷ 4 ∷ 0 ∷ 2 ∷ []) (0 ∷ 100 ∷ 100 ∷ 0 ∷ 0 ∷ [])
+    ++ says (verdict compared (oneRoot 308) 4) 7 0 5
+    ++ says (verdict compared (oneRoot 309) 5) 9 309 0
+    -- the second audit does not compare them (document 02, request 10)
+    ++ says (verdict apart (oneRoot 309) 5) 0 0 5
     -- not of the paper's examples, but of request 02. A key with Version 1000 has sum 29 where its strings are empty, with 1001 37
     ++ answers (pieceAnswer (emptyKey 1000) 0) 0 0 29
     ++ answers (pieceAnswer (emptyKey 1001) 0) 0 0 37
@@ -120,13 +122,13 @@ examples =
     ++ eq (sumAt (twoClasses 1004 97)) 72 ∷ answers (infoAnswer (twoClasses 1004 97) 0 6) 0 0 1
     ++ answers (infoAnswer (twoClasses 1004 89) 0 6) 22 195 0
     -- a wide one.root: its final segment's last is any number above END
-    ++ says (verdict (wideRoot 433) 5) 0 0 5
-    ++ shows (verdict (wideRoot 433) 5) (100 ∷ 188 ∷ 246 ∷ 341 ∷ 353 ∷ []) (1 ∷ 5 ∷ 4 ∷ 0 ∷ 2 ∷ []) (0 ∷ 100 ∷ 100 ∷ 0 ∷ 0 ∷ [])
-    ++ says (verdict (wideRoot 18446744073709551615) 5) 0 0 5
-    ++ says (verdict (wideRoot 432) 5) 9 353 0
+    ++ says (verdict compared (wideRoot 433) 5) 0 0 5
+    ++ shows (verdict compared (wideRoot 433) 5) (100 ∷ 188 ∷ 246 ∷ 341 ∷ 353 ∷ []) (1 ∷ 5 ∷ 4 ∷ 0 ∷ 2 ∷ []) (0 ∷ 100 ∷ 100 ∷ 0 ∷ 0 ∷ [])
+    ++ says (verdict compared (wideRoot 18446744073709551615) 5) 0 0 5
+    ++ says (verdict compared (wideRoot 432) 5) 9 353 0
     -- Units 8 in the narrow one, and 4 in the wide, is 3
-    ++ says (verdict (set (oneRoot 308) 32 8) 5) 3 0 0
-    ++ says (verdict (set (wideRoot 433) 40 4) 5) 3 0 0
+    ++ says (verdict compared (set (oneRoot 308) 32 8) 5) 3 0 0
+    ++ says (verdict compared (set (wideRoot 433) 40 4) 5) 3 0 0
     -- nor is this, of request 04: a name of 254 bytes in the long form is 6
     ++ answers (pieceAnswer shortInLong 0) 6 0 0
     -- nor are these, of request 05. Below Version 4 no option stands after an object, from 4 on one after the last too

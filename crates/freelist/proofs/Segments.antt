@@ -7,7 +7,7 @@ use native.Mathlib.Numerals.{add-one}
 use native.Mathlib.Omega.{arith}
 use borrow.Author.Tests.{eq-eqb, le-leb, eqb-true}
 use lib.Dec.{eqb, leb}
-use lib.ListN.{length, getD, drop, drop-of-length-le}
+use lib.ListN.{length, getD, take, drop, drop-of-length-le}
 use lib.Seq.{drop-cons}
 use Rattle.wire.specs.Check.{all, All}
 use Rattle.wire.specs.Layout.{offsetWidth}
@@ -15,10 +15,10 @@ use Rattle.wire.specs.Number.{numAt}
 use Rattle.wire.proofs.Checks.{picked, not-picked, from-picked, from-not-picked, not-all, false-true}
 use Rattle.key.specs.Piece.{pieceAt}
 use Rattle.record.proofs.Tests.{and-true}
-use Rattle.rules.specs.Free.{segmentEnd, segmentsAt, segmentsEnd, segmentVersion, versionsFit, segmentsFit, gapLast, gaps, lastFits, listGaps}
+use Rattle.rules.specs.Free.{segmentEnd, segmentsAt, segmentsEnd, segmentVersion, versionsFit, segmentsFit, gapLast, gaps, lastFits, listGaps, heldTo}
 use Rattle.rows.specs.Gap.{gapOf}
 use Rattle.rows.proofs.Gaps.{gap-none, gap-some}
-use Rattle.freelist.specs.Segment.{firstAt, lastAt, stands, segmentIn, segmentIs, afterSegment, finalIs, segmentsAre}
+use Rattle.freelist.specs.Segment.{firstAt, lastAt, stands, segmentIn, segmentIs, afterSegment, finalIs, segmentsAre, segmentsStand}
 use Rattle.freelist.specs.declared.Segment.{Segment}
 use Rattle.freelist.specs.declared.Listed.the-variants.{Held, Bad}
 
@@ -153,6 +153,61 @@ module _ (wide : Bool) (s : List ℕ) (a end : ℕ) where
   not-alone zero h = and-false (all (segmentsFit wide s 0 a end))
   not-alone (suc zero) h = absurd (h refl)
   not-alone (suc (suc n)) h = and-false (all (segmentsFit wide s (suc (suc n)) a end))
+
+  -- segments that are held to nothing: the next one, and the last
+  all-but : (n : ℕ) → let xs = segmentsAt s (suc n) (segmentEnd s a) in let us = segmentsAt s (suc (suc n)) a in
+      take (length us - 2) us ≡ firstAt s a ∷ lastAt s a ∷ take (length xs - 2) xs
+  unfolding segmentsAt
+  all-but n =
+      let ys = segmentsAt s n (segmentEnd s (segmentEnd s a)) in
+      let e : suc (suc (suc (suc (length ys)))) - 2 ≡ suc (suc (length ys)) = omega arith in
+      let f : suc (suc (length ys)) - 2 ≡ length ys = omega arith in
+      rw (e, f)
+
+  stand-next : (n : ℕ) → All (stands wide s a end) → 1 < n → segmentsStand wide s end n a ≡ segmentsStand wide s end (n - 1) (segmentEnd s a)
+  unfolding segmentsStand heldTo
+  stand-next zero h l = absurd (omega arith)
+  stand-next (suc zero) h l = absurd (omega arith)
+  stand-next (suc (suc n)) h l =
+      let p : suc (suc n) - 1 ≡ suc n = omega arith in
+      ap (λ (ys : List ℕ). segmentsAre wide s end ys (suc (suc n)) a) (all-but n)
+      ∙ fit (firstAt s a) (lastAt s a) (suc (suc n)) _ (h .0, (h .1 .0, (refl, (refl, tt)))) (omega arith)
+      ∙ rw p
+
+  stand-none : (n : ℕ) → (All (stands wide s a end) → ⊥) → 1 < n → segmentsStand wide s end n a ≡ false
+  unfolding segmentsStand heldTo
+  stand-none zero h l = absurd (omega arith)
+  stand-none (suc zero) h l = absurd (omega arith)
+  stand-none (suc (suc n)) h l =
+      ap (λ (ys : List ℕ). segmentsAre wide s end ys (suc (suc n)) a) (all-but n)
+      ∙ unfit (firstAt s a) (lastAt s a) (suc (suc n)) _ (λ k. h (k .0, (k .1 .0, tt)))
+
+  stand-last : segmentsStand wide s end 1 a ≡ all (finalIs wide s a end)
+  unfolding segmentsStand heldTo segmentsAt
+  stand-last = alone
+
+  stand-nothing : segmentsStand wide s end 0 a ≡ false
+  unfolding segmentsStand heldTo segmentsAt
+  stand-nothing = not-alone 0 (λ e. omega arith)
+
+-- while segments are passed over: those that are left decide
+pub record Passing (wide : Bool) (s : List ℕ) (end count from at left : ℕ) : Type 0 where
+  pub stand : segmentsStand wide s end count from ≡ segmentsStand wide s end left at
+
+module _ {wide : Bool} {s : List ℕ} {end count from at left : ℕ} (m : Passing wide s end count from at left) where
+  pub next-passed : {g : Segment} → Held g ≡ segmentIn wide s at end → 1 < left → Passing wide s end count from (g .next) (left - 1)
+  next-passed e l =
+      let r = from-held wide s at end e in
+      rw (r .next) (record { stand = m .stand ∙ stand-next wide s at end left (r .fits) l })
+
+  pub next-bad : Bad ≡ segmentIn wide s at end → 1 < left → false ≡ segmentsStand wide s end count from
+  next-bad e l = sym (m .stand ∙ stand-none wide s at end left (from-bad wide s at end e) l)
+
+  pub nothing-left : left ≡ 0 → false ≡ segmentsStand wide s end count from
+  nothing-left e = sym (m .stand ∙ ap (λ (j : ℕ). segmentsStand wide s end j at) e ∙ stand-nothing wide s at end)
+
+  pub last-left : {r : Bool} → left ≡ 1 → r ≡ all (finalIs wide s at end) → r ≡ segmentsStand wide s end count from
+  last-left e h = h ∙ sym (m .stand ∙ ap (λ (j : ℕ). segmentsStand wide s end j at) e ∙ stand-last wide s at end)
 
 -- while segments are compared with the gaps: those that are left decide
 pub record Matching (wide : Bool) (s qs : List ℕ) (end count from at left i : ℕ) : Type 0 where

@@ -6,7 +6,7 @@ use lib.ListN.{length, getD}
 use Rattle.wire.specs.Check.{Check, le, eq, yes, all, pick}
 use Rattle.wire.specs.Layout.{valuesAt}
 use Rattle.wire.specs.Number.{numAt}
-use Rattle.rules.specs.Free.{segmentLayoutAt, segmentEnd, segmentsAt, segmentVersion, segmentsFit, lastFits, listGaps}
+use Rattle.rules.specs.Free.{segmentLayoutAt, segmentEnd, segmentsAt, segmentVersion, segmentsFit, lastFits, apart, listGaps, heldTo}
 use Rattle.freelist.specs.declared.Listed.{Listed}
 use Rattle.freelist.specs.declared.Listed.the-variants.{Held, Bad}
 
@@ -42,3 +42,7 @@ finalIs wide s a end =
 -- n segments fill the data from a to its end, and are these gaps, then the final one
 unfoldable pub segmentsAre : Bool → List ℕ → ℕ → List ℕ → ℕ → ℕ → Bool
 segmentsAre wide s end ys n a = all (segmentsFit wide s n a end) && listGaps wide (length s) ys (segmentsAt s n a)
+
+-- n segments fill the data from a to its end, and the last of them is the final one
+unfoldable pub segmentsStand : Bool → List ℕ → ℕ → ℕ → ℕ → Bool
+segmentsStand wide s end n a = segmentsAre wide s end (heldTo apart [] (segmentsAt s n a)) n a

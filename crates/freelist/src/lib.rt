@@ -1,11 +1,11 @@
-// The free list: its segments are the gaps of the file in file order, then the rest of the file. The public function takes any input
-// and has no precondition; its promise is for a table that rises.
+// The free list: its segments are the gaps of the file in file order, then the rest of the file; the second audit does not compare them
+// with the gaps. The public function takes any input and has no precondition; its promise is for a table that rises.
 ghost use mathlib.Core.Path.{_≡_};
 ghost use Rattle.wire.specs.Check.{all};
 ghost use Rattle.wire.specs.Lent.{before};
 ghost use Rattle.rules.specs.Free.{segmentVersion, lastFits, gaps, freeHolds};
 ghost use Rattle.rows.specs.Row.{Rises};
-ghost use Rattle.freelist.specs.Segment.{segmentIn, afterSegment, finalIs, segmentsAre};
+ghost use Rattle.freelist.specs.Segment.{segmentIn, afterSegment, finalIs, segmentsAre, segmentsStand};
 use fileheader::FileHead;
 use keylist::Data;
 use keylist::read_free;
@@ -139,9 +139,28 @@ fn match_segments(
     is_final(file, at, end, wide)
 }
 
-// Whether the free list rule holds, for starts that rise.
-pub fn check_free(file: &[u8], start: &[u64], head: FileHead) -> bool
-    ensures { λ r. ⌜ (Rises (before start) → r ≡ freeHolds (before file) (before start) head) ⌝ }
+// Whether some segments, from a place to the end of the data, end with the rest of the file, whatever the others are.
+fn end_segments(file: &[u8], wide: bool, count: u32, from: usize, end: usize) -> bool
+    ensures { λ r. ⌜ r ≡ segmentsStand wide (before file) end count from ⌝ }
+{
+    let mut at = from;
+    let mut left = count;
+    while 1 < left {
+        let Listed::Held(g) = read_segment(file, at, end, wide) else {
+            return false;
+        };
+        at = g.next;
+        left -= 1;
+    }
+    if left == 0 {
+        return false;
+    }
+    is_final(file, at, end, wide)
+}
+
+// Whether the free list rule holds, for starts that rise; where compare is false, without the comparison of the segments with the gaps.
+pub fn check_free(file: &[u8], start: &[u64], head: FileHead, compare: bool) -> bool
+    ensures { λ r. ⌜ (Rises (before start) → r ≡ freeHolds compare (before file) (before start) head) ⌝ }
 {
     let seek = head.seekfree;
     if seek == 100 {
@@ -153,5 +172,8 @@ pub fn check_free(file: &[u8], start: &[u64], head: FileHead) -> bool
     let Data::Held(from, end) = read_free(file, seek as usize, head.nbytesfree) else {
         return false;
     };
-    match_segments(file, start, head.wide, head.nfree, from, end)
+    if compare {
+        return match_segments(file, start, head.wide, head.nfree, from, end);
+    }
+    end_segments(file, head.wide, head.nfree, from, end)
 }

@@ -1,3 +1,4 @@
+pub mod Agrees
 pub mod Headers
 pub mod Names
 pub mod Others

@@ -13,6 +13,7 @@ use Rattle.wire.proofs.Answers.{same-answer}
 use Rattle.report.specs.Report.{reportOf, Wrote}
 use Rattle.report.proofs.Reports.{wrote-within, wrote-all}
 use Rattle.wire.specs.Lent.{Lent, before, after}
+use Rattle.rules.specs.Free.{compared}
 use Rattle.rules.specs.Order.{verdict}
 use Rattle.audit.specs.Tables.{told, Audits}
 use Rattle.listing.specs.Listing.{room, reported, tooLong, inputLimit, listingOf, inputRoom, Lists}
@@ -56,6 +57,6 @@ pub is-listed : {file start part owner : Lent} {a : Answer} → Audits file star
     → Wrote (reportOf a (after start) (after part) (after owner) (length (before file))) out r out′ → Lists (before file) out out′ r
 unfolding listingOf reported
 is-listed {file} {start} {part} {owner} {a} u e f g l out h =
-    let k : told file start part owner ≡ verdict (before file) room = ap (verdict (before file)) (rw (e, f, g)) in
+    let k : told file start part owner ≡ verdict compared (before file) room = ap (verdict compared (before file)) (rw (e, f, g)) in
     lists (before file) out
     (rw (le-leb (length (before file)) inputLimit l, ← k, same-answer (u .number) (u .place) (u .count), u .starts, u .parts, u .owners, e, f, g)) h

@@ -13,6 +13,7 @@ use Rattle.fileheader.specs.File.{openedAs}
 use Rattle.fileheader.specs.declared.FileHead.{FileHead}
 use Rattle.fileheader.specs.declared.Opened.{Opened}
 use Rattle.fileheader.specs.declared.Opened.the-variants.{Good, Refused}
+use Rattle.rules.specs.Free.{compared}
 use Rattle.rules.specs.Order.{Chain, whole, fault, chain, ruled, Verdict, refused, onTurn, onChain, onOpened, verdict, startsOf}
 use Rattle.rules.specs.Turn.{Turn, going, stop}
 use Rattle.table.specs.Table.{filled}
@@ -27,19 +28,19 @@ module _ (s : List ℕ) (room : ℕ) where
   in-turn qs l (going ps os c) = l
   in-turn qs l (stop c p) = omega arith
 
-  in-chain : (h : FileHead) (c : Chain) → length (startsOf (onChain s room h c)) ≤ room
+  in-chain : (h : FileHead) (c : Chain) → length (startsOf (onChain compared s room h c)) ≤ room
   in-chain h (fault c p) = omega arith
   in-chain h (whole qs) = go (leb (length qs) room) refl
     where
-      go : (t : Bool) → leb (length qs) room ≡ t → length (startsOf (pick t (onTurn qs (ruled s h qs)) (refused 7 0 (length qs)))) ≤ room
-      go true e = in-turn qs (leb-true (length qs) room e) (ruled s h qs)
+      go : (t : Bool) → leb (length qs) room ≡ t → length (startsOf (pick t (onTurn qs (ruled compared s h qs)) (refused 7 0 (length qs)))) ≤ room
+      go true e = in-turn qs (leb-true (length qs) room e) (ruled compared s h qs)
       go false e = omega arith
 
-  in-opened : (o : Opened) → length (startsOf (onOpened s room o)) ≤ room
+  in-opened : (o : Opened) → length (startsOf (onOpened compared s room o)) ≤ room
   in-opened (Good h) = in-chain h (chain s (length s) 100)
   in-opened (Refused c) = omega arith
 
-  rows-room : length (startsOf (verdict s room)) ≤ room
+  rows-room : length (startsOf (verdict compared s room)) ≤ room
   unfolding verdict
   rows-room = in-opened (openedAs s)
 
@@ -58,6 +59,6 @@ pub listing-short : (s : List ℕ) → length (listingOf s) ≤ 73800
 unfolding listingOf
 listing-short s = go (leb (length s) inputLimit)
   where
-    go : (t : Bool) → length (pick t (reported s (verdict s 1024)) tooLong) ≤ 73800
-    go true = reported-short s (verdict s 1024) (rows-room s 1024)
+    go : (t : Bool) → length (pick t (reported s (verdict compared s 1024)) tooLong) ≤ 73800
+    go true = reported-short s (verdict compared s 1024) (rows-room s 1024)
     go false = omega arith

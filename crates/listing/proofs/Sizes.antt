@@ -13,6 +13,7 @@ use Rattle.wire.specs.Check.{pick}
 use Rattle.key.specs.Piece.{pieceAt, sizeOf}
 use Rattle.report.specs.Report.{nextPlace}
 use Rattle.rules.proofs.Demands.{demand}
+use Rattle.rules.specs.Free.{compared}
 use Rattle.rules.specs.Order.{Verdict, passed, refused, verdict, startsOf, numberOf}
 use Rattle.rules.specs.Partition.{Partition}
 use Rattle.listing.specs.Listing.{room, Sizes}
@@ -43,12 +44,12 @@ pub own-sizes : (s qs : List ℕ) → Partition s 100 (length s) qs → (rest : 
     → nextPlace (qs ++ rest) (length qs) (length s) i - getD qs i 0 ≡ sizeOf (pieceAt s (getD qs i 0))
 own-sizes s qs h rest i l = rw (next-place qs rest (length s) i l, next-start s 100 qs (length s) h i l) (omega arith)
 
-pub printed-sizes : (s : List ℕ) → Sizes s (verdict s room)
-printed-sizes s = go (verdict s room) refl
+pub printed-sizes : (s : List ℕ) → Sizes s (verdict compared s room)
+printed-sizes s = go (verdict compared s room) refl
   where
-    go : (v : Verdict) → verdict s room ≡ v → Sizes s v
+    go : (v : Verdict) → verdict compared s room ≡ v → Sizes s v
     go (refused c p n) e i l = absurd (omega arith)
     go (passed qs ps os) e i l =
-        let d = demand s room .sound (ap numberOf e) in
+        let d = demand compared s room .sound (ap numberOf e) in
         let same : d .0 ≡ qs = sym (ap startsOf (d .3)) ∙ ap startsOf e in
         own-sizes s qs (subst (Partition s 100 (length s)) same (d .4 .partition .1)) _ i l

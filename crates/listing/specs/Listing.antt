@@ -11,6 +11,7 @@ use Rattle.wire.specs.declared.Answer.{Answer}
 use Rattle.table.specs.Table.{filled}
 use Rattle.key.specs.Piece.{pieceAt, sizeOf}
 use Rattle.report.specs.Report.{nextPlace, reportOf, putAnswer, putBuffer}
+use Rattle.rules.specs.Free.{compared}
 use Rattle.rules.specs.Order.{Verdict, verdict, numberOf, placeOf, countOf, startsOf, partsOf, ownersOf}
 
 -- "with tables of 1,024"
@@ -33,7 +34,7 @@ inputLimit = 32768
 
 -- the text for the bytes s
 unfoldable pub listingOf : List ℕ → List ℕ
-listingOf s = pick (leb (length s) inputLimit) (reported s (verdict s room)) tooLong
+listingOf s = pick (leb (length s) inputLimit) (reported s (verdict compared s room)) tooLong
 
 -- room for the input: one byte more than is taken, so that an input that is too long is seen; and room for the text of every input
 abbrev pub inputRoom : ℕ
@@ -58,6 +59,6 @@ pub record Lists (s out out′ : List ℕ) (r : Answer) : Type 0 where
   pub answer : r ≡ putAnswer (listingOf s) out
   pub buffer : out′ ≡ putBuffer (listingOf s) out
   pub counts : Counts (r .count) out′
-  pub sizes : Sizes s (verdict s room)
+  pub sizes : Sizes s (verdict compared s room)
   pub held : textRoom ≤ length out → r ≡ done (length (listingOf s))
   pub whole : (t : List ℕ) → s ≡ take inputRoom t → listingOf s ≡ listingOf t

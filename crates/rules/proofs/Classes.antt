@@ -23,7 +23,7 @@ use Rattle.record.specs.Name.{named}
 use Rattle.directory.specs.declared.Dir.the-variants as dir
 use Rattle.directory.specs.declared.DirHead.{DirHead}
 use Rattle.fileheader.specs.declared.FileHead.{FileHead}
-use Rattle.rules.specs.Free.{isGap, Free, infoHolds}
+use Rattle.rules.specs.Free.{Mode, isGap, Free, infoHolds}
 use Rattle.rules.specs.Row.{starts}
 use Rattle.rules.proofs.Frees.{and-both}
 
@@ -59,7 +59,7 @@ pub head-file : (s : List ℕ) (n : ℕ) (dh : DirHead) → headIn s n ≡ dir.H
 head-file s n dh e = let r = from-head s n (sym e) in (r .0, r .1, r .2 .0)
 
 -- the free list
-pub free-file : (s qs : List ℕ) (h : FileHead) → Free s qs h → Named s (h .seekfree) tFile
+pub free-file : {mode : Mode} (s qs : List ℕ) (h : FileHead) → Free mode s qs h → Named s (h .seekfree) tFile
 free-file s qs h f = let d = from-free s (h .seekfree) (h .nbytesfree) (sym (f .held)) in (d .key, d .is, d .passed .0)
 
 -- the info record

@@ -12,6 +12,7 @@ use Rattle.directory.specs.Dir.{dirOf, noKeys}
 use Rattle.directory.specs.declared.Dir.the-variants as dir
 use Rattle.directory.specs.declared.DirHead.{DirHead}
 use Rattle.fileheader.specs.declared.FileHead.{FileHead}
+use Rattle.rules.specs.Free.{Mode}
 use Rattle.rules.specs.Entry.{listedPart}
 use Rattle.rules.specs.Partition.{Partition}
 use Rattle.rules.specs.Rules.{Rules, In, Directory, Listed, Leads, root, up, DirectoryAt, KeysAre, Filled, places}
@@ -25,7 +26,7 @@ use Rattle.rules.proofs.Partitions.{rises}
 use Rattle.rules.proofs.Places.{row-in}
 use Rattle.rules.proofs.Runs.{copied}
 
-module _ (s : List ℕ) (h : FileHead) (qs : List ℕ) (p : Partition s 100 (length s) qs) (gs hs : List ℕ) (r : Rules s h qs gs hs) where
+module _ (s : List ℕ) (h : FileHead) (qs : List ℕ) (p : Partition s 100 (length s) qs) (gs hs : List ℕ) {mode : Mode} (r : Rules s h qs gs hs mode) where
   -- rows of the header's records and gaps
   abbrev FixedAt : ℕ → Type 0
   FixedAt i = (final (getD gs i 0) ≡ final (firstPart s h (getD qs i 0))) × ((getD gs i 0 ≤ 3) × (getD hs i 0 ≡ 0))

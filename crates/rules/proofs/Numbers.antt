@@ -18,7 +18,7 @@ use Rattle.directory.specs.declared.Dir.the-variants as dir
 use Rattle.directory.specs.declared.DirHead.{DirHead}
 use Rattle.fileheader.specs.declared.FileHead.{FileHead}
 use Rattle.rules.specs.Entry.{entryFits}
-use Rattle.rules.specs.Free.{freeHolds, infoHolds}
+use Rattle.rules.specs.Free.{Mode, freeHolds, infoHolds}
 use Rattle.rules.specs.Order.{onHead, ruled}
 use Rattle.rules.specs.Turn.{rowOf, Turn, going, stop, andThen, give, listedMark, onCopy, copyTurn, copies, ended, dataTurn, onData, keysIn}
 use Rattle.rules.specs.Turn.{keysTurn, onDir, dirTurn, settle, roundTurn, nextRow, rounds, firstParts}
@@ -92,14 +92,14 @@ module _ (s : List ℕ) (h : FileHead) (qs : List ℕ) where
       late-pick (ltb (nextRow ps) (length ps)) (andThen (rounds s h qs n) (roundTurn s h qs (nextRow ps) ps os)) (going ps os c)
       (late-then (rounds s h qs n) (roundTurn s h qs (nextRow ps) ps os) (late-rounds n) (late-round (nextRow ps) ps os)) tt
 
-  late-head : (x : Dir) → Late (onHead s h qs x)
-  late-head (dir.Held dh) =
+  late-head : (mode : Mode) (x : Dir) → Late (onHead mode s h qs x)
+  late-head mode (dir.Held dh) =
       let t = rounds s h qs (length qs) (firstParts s h qs) (replicate (length qs) 0) 0 in
-      late-pick (freeHolds s qs h) (pick (infoHolds s qs h) t (stop 10 (h .seekinfo))) (stop 9 (h .seekfree))
+      late-pick (freeHolds mode s qs h) (pick (infoHolds s qs h) t (stop 10 (h .seekinfo))) (stop 9 (h .seekfree))
       (late-pick (infoHolds s qs h) t (stop 10 (h .seekinfo)) (late-rounds (length qs) (firstParts s h qs) (replicate (length qs) 0) 0) (omega arith))
       (omega arith)
-  late-head dir.Bad = omega arith
+  late-head mode dir.Bad = omega arith
 
-  pub late : Late (ruled s h qs)
+  pub late : (mode : Mode) → Late (ruled mode s h qs)
   unfolding ruled
-  late = late-head (headIn s (h .nbytesname))
+  late mode = late-head mode (headIn s (h .nbytesname))

@@ -1,10 +1,14 @@
--- Partitions: one at most, none after a refusal, starts that rise, a piece at each.
+-- Partitions: one at most, none after a refusal, starts that rise, a piece at each; one after another, and of bytes that agree.
 use Prim.Native.Nat.{ℕ, zero, suc, _+_, _≤_, _<_}
 use mathlib.Core.List.{List, [], _∷_, _++_}
-use mathlib.Core.Path.{_≡_, refl, sym}
+use mathlib.Core.Path.{_≡_, refl, sym, subst}
 use native.Mathlib.Omega.{arith}
 use lib.ListN.{length, getD}
+use Rattle.wire.specs.Agree.{Agree}
+use Rattle.wire.proofs.Agrees.{within}
 use Rattle.key.specs.Piece.{pieceAt, sizeOf}
+use Rattle.key.specs.declared.piece.Piece.{Piece}
+use Rattle.key.proofs.Agrees.{piece-same}
 use Rattle.key.proofs.Pieces.{size-fits}
 use Rattle.rules.specs.Partition.{Partition}
 use Rattle.table.specs.Table.{Rising}
@@ -58,3 +62,22 @@ sized-at s p (q ∷ qs) e h (suc i) l = sized-at s (p + sizeOf (pieceAt s p)) qs
 pub forward : (s : List ℕ) (p : ℕ) (qs : List ℕ) (e : ℕ) → Partition s p e qs → p ≤ e
 forward s p [] e h = omega (arith, h)
 forward s p (q ∷ qs) e h = omega (arith, forward s (p + sizeOf (pieceAt s p)) qs e (h .1 .1))
+
+-- a partition whose bytes all agree
+pub partition-kept : {s t : List ℕ} (p e : ℕ) (qs : List ℕ) → Partition s p e qs → Agree s t p e → Partition t p e qs
+partition-kept p e [] x g = x
+partition-kept {s} {t} p e (q ∷ qs) x g =
+    let f = forward s (p + sizeOf (pieceAt s p)) qs e (x .1 .1) in
+    let i = piece-same p (x .1 .0) (within p (p + sizeOf (pieceAt s p)) g (omega arith) f) in (
+      x .0,
+      (
+        subst (λ (z : Piece). 0 < sizeOf z) (sym i) (x .1 .0),
+        subst (λ (z : Piece). Partition t (p + sizeOf z) e qs) (sym i)
+            (partition-kept (p + sizeOf (pieceAt s p)) e qs (x .1 .1) (within (p + sizeOf (pieceAt s p)) e g (omega arith) (omega arith))),
+      ),
+    )
+
+-- one partition after another
+pub partition-append : (t : List ℕ) (a b c : ℕ) (qs rs : List ℕ) → Partition t a b qs → Partition t b c rs → Partition t a c (qs ++ rs)
+partition-append t a b c [] rs x y = subst (λ (n : ℕ). Partition t n c rs) (sym x) y
+partition-append t a b c (q ∷ qs) rs x y = (x .0, (x .1 .0, partition-append t (a + sizeOf (pieceAt t a)) b c qs rs (x .1 .1) y))

@@ -16,7 +16,7 @@ use Rattle.directory.specs.declared.DirHead.{DirHead}
 use Rattle.fileheader.specs.declared.FileHead.{FileHead}
 use Rattle.wire.proofs.Checks.{false-true}
 use Rattle.rules.specs.Entry.{listedPart}
-use Rattle.rules.specs.Free.{isGap, Free, infoHolds}
+use Rattle.rules.specs.Free.{Mode, isGap, Free, infoHolds}
 use Rattle.rules.specs.Partition.{Partition}
 use Rattle.rules.specs.Row.{starts}
 use Rattle.rules.specs.Rules.{Rules, In, Distinct, Directory, Listed, DirectoryAt, KeysOf, Lists, KeysAre, Filled, places}
@@ -303,7 +303,7 @@ module _ (s : List ℕ) (h : FileHead) (qs : List ℕ) (p : Partition s 100 (len
       ((o .dirhead, o .keys, o .stands, inr (o .filled), x .0), x .1))
       (o .how)
 
-  module _ (dh : DirHead) (hd : headIn s (h .nbytesname) ≡ dir.Held dh) (fr : Free s qs h) (nf : infoHolds s qs h ≡ true) where
+  module _ {mode : Mode} (dh : DirHead) (hd : headIn s (h .nbytesname) ≡ dir.Held dh) (fr : Free mode s qs h) (nf : infoHolds s qs h ≡ true) where
     info-there : (i : ℕ) → i < length qs → getD qs i 0 ≡ h .seekinfo → Named s (h .seekinfo) tList
     info-there i l e = info-list s qs h nf (λ z. omega (arith, below-first s h qs p i l))
 
@@ -348,7 +348,7 @@ module _ (s : List ℕ) (h : FileHead) (qs : List ℕ) (p : Partition s 100 (len
     alone-row i l k (gap x y z a b) = fixed-part i 0 l b (λ w. omega arith) .1
     alone-row i l k (other x y z a b) = absurd (omega (arith, loose-part i l b))
 
-    pub meets : Rules s h qs ps os
+    pub meets : Rules s h qs ps os mode
     unfolding graph
     meets = record {
       parts = v .parts;

@@ -1,10 +1,10 @@
--- The free list and the info record: document 01, "Free list" and "Info"; document 02, requests 01 and 02.
+-- The free list and the info record: document 01, "Free list" and "Info"; document 02, requests 01, 02 and 10.
 use Prim.Native.Nat.{ℕ, zero, suc, _+_, _-_}
 use mathlib.Core.Bool.{Bool, true, false, _&&_, _||_}
 use mathlib.Core.List.{List, [], _∷_, _++_}
 use mathlib.Core.Path.{_≡_}
 use lib.Dec.{ltb, eqb}
-use lib.ListN.{length, drop}
+use lib.ListN.{length, take, drop}
 use Rattle.wire.specs.Check.{Check, le, eq, all, All, nothing, pick}
 use Rattle.wire.specs.Layout.{offsetWidth, mostVersion, extent, valuesAt}
 use Rattle.wire.specs.Number.{numAt}
@@ -16,6 +16,16 @@ use Rattle.keylist.specs.declared.Data.{Data}
 use Rattle.keylist.specs.declared.Data.the-variants.{Held, Bad}
 use Rattle.fileheader.specs.declared.FileHead.{FileHead}
 use Rattle.rules.specs.Row.{starts}
+
+-- which audit it is: the first one compares free segments with the gaps, the second one (document 02, request 10) does not
+abbrev pub Mode : Type 0
+Mode = Bool
+
+abbrev pub compared : Mode
+compared = true
+
+abbrev pub apart : Mode
+apart = false
 
 abbrev pub isGap : Piece → Bool
 isGap (Record k) = false
@@ -70,7 +80,7 @@ unfoldable pub lastFits : Bool → ℕ → ℕ → Bool
 lastFits true end last = ltb end last
 lastFits false end last = eqb last 2000000000
 
-pub record Free (s qs : List ℕ) (h : FileHead) : Type 0 where
+pub record Free (mode : Mode) (s qs : List ℕ) (h : FileHead) : Type 0 where
   -- SeekFree is the start of a plain unpacked record other than the head, of class TFile and size NbytesFree
   pub other : h .seekfree ≡ 100 → ⊥
   pub place : starts qs (h .seekfree) ≡ true
@@ -84,8 +94,8 @@ pub record Free (s qs : List ℕ) (h : FileHead) : Type 0 where
   pub last : ℕ
   pub final : segmentsAt s (h .nfree) from ≡ segments ++ (length s ∷ last ∷ [])
   pub beyond : lastFits (h .wide) (length s) last ≡ true
-  -- all but the final one equal the gaps, in file order, none left over
-  pub equal : segments ≡ gaps s qs
+  -- all but the final one equal the gaps, in file order, none left over; the second audit does not ask it
+  pub equal : mode ≡ compared → segments ≡ gaps s qs
 
 -- the same as a test, which the order makes: the segments xs are the gaps ys, then the final one
 unfoldable pub listGaps : Bool → ℕ → List ℕ → List ℕ → Bool
@@ -96,14 +106,20 @@ listGaps wide end [] [] = false
 listGaps wide end [] (first ∷ []) = false
 listGaps wide end [] (first ∷ last ∷ x ∷ xs) = false
 
-abbrev pub freeData : Bool → List ℕ → List ℕ → ℕ → Data → Bool
-freeData wide s qs n (Held a end) = all (segmentsFit wide s n a end) && listGaps wide (length s) (gaps s qs) (segmentsAt s n a)
-freeData wide s qs n Bad = false
+-- what all but the final one of the segments xs are held to: the gaps ys; in the second audit nothing, so themselves
+unfoldable pub heldTo : Mode → List ℕ → List ℕ → List ℕ
+heldTo true ys xs = ys
+heldTo false ys xs = take (length xs - 2) xs
 
-unfoldable pub freeHolds : List ℕ → List ℕ → FileHead → Bool
-freeHolds s qs h =
+abbrev pub freeData : Mode → Bool → List ℕ → List ℕ → ℕ → Data → Bool
+freeData mode wide s qs n (Held a end) =
+    all (segmentsFit wide s n a end) && listGaps wide (length s) (heldTo mode (gaps s qs) (segmentsAt s n a)) (segmentsAt s n a)
+freeData mode wide s qs n Bad = false
+
+unfoldable pub freeHolds : Mode → List ℕ → List ℕ → FileHead → Bool
+freeHolds mode s qs h =
     pick (eqb (h .seekfree) 100) false
-    (starts qs (h .seekfree) && freeData (h .wide) s qs (h .nfree) (freeIn s (h .seekfree) (h .nbytesfree)))
+    (starts qs (h .seekfree) && freeData mode (h .wide) s qs (h .nfree) (freeIn s (h .seekfree) (h .nbytesfree)))
 
 -- SeekInfo and NbytesInfo both 0, or the start and size of the info record
 unfoldable pub infoHolds : List ℕ → List ℕ → FileHead → Bool

@@ -1,4 +1,5 @@
--- The order of refusals: document 01, "Order" and "Numbers given back". The verdict on a byte string with tables of a given room.
+-- The order of refusals: document 01, "Order" and "Numbers given back". The verdict of an audit on a byte string,
+-- with tables of a given room.
 use Prim.Native.Nat.{ℕ, zero, suc, _+_}
 use mathlib.Core.List.{List, [], _∷_}
 use lib.Dec.{leb, ltb}
@@ -17,7 +18,7 @@ use Rattle.fileheader.specs.declared.Opened.{Opened}
 use Rattle.fileheader.specs.declared.Opened.the-variants as opened
 use Rattle.keylist.specs.Keys.{freeAnswer}
 use Rattle.keylist.specs.declared.Data.the-variants as span
-use Rattle.rules.specs.Free.{freeHolds, infoHolds}
+use Rattle.rules.specs.Free.{Mode, freeHolds, infoHolds}
 use Rattle.rules.specs.Turn.{Turn, going, stop, rounds, firstParts, stopAt}
 
 -- the starts of the pieces, or the first refusal by place
@@ -39,17 +40,6 @@ unfoldable pub chain : List ℕ → ℕ → ℕ → Chain
 chain s zero p = fault 5 p
 chain s (suc n) p = pick (ltb p (length s)) (onPiece (chain s n) p (pieceAt s p)) (whole [])
 
--- 8 head, 9 free, 10 info, then the directories
-abbrev pub onHead : List ℕ → FileHead → List ℕ → Dir → Turn
-onHead s h qs (header.Held dh) =
-    pick (freeHolds s qs h)
-    (pick (infoHolds s qs h) (rounds s h qs (length qs) (firstParts s h qs) (replicate (length qs) 0) 0) (stop 10 (h .seekinfo)))
-    (stopAt (freeAnswer (h .seekfree) span.Bad))
-onHead s h qs header.Bad = stopAt (headAnswer header.Bad)
-
-unfoldable pub ruled : List ℕ → FileHead → List ℕ → Turn
-ruled s h qs = onHead s h qs (headIn s (h .nbytesname))
-
 -- a pass, with start, part and owner of each piece; or number, place and count
 pub data Verdict : Type 0 where
   passed : List ℕ → List ℕ → List ℕ → Verdict
@@ -62,17 +52,30 @@ abbrev pub onTurn : List ℕ → Turn → Verdict
 onTurn qs (going ps os c) = passed qs ps os
 onTurn qs (stop c p) = refused c p 0
 
--- 7 unfinished: pieces exceed room
-abbrev pub onChain : List ℕ → ℕ → FileHead → Chain → Verdict
-onChain s room h (whole qs) = pick (leb (length qs) room) (onTurn qs (ruled s h qs)) (refused 7 0 (length qs))
-onChain s room h (fault c p) = refused c p 0
+-- of one audit or the other: only the free list's test depends on it
+module _ (mode : Mode) where
+  -- 8 head, 9 free, 10 info, then the directories
+  abbrev pub onHead : List ℕ → FileHead → List ℕ → Dir → Turn
+  onHead s h qs (header.Held dh) =
+      pick (freeHolds mode s qs h)
+      (pick (infoHolds s qs h) (rounds s h qs (length qs) (firstParts s h qs) (replicate (length qs) 0) 0) (stop 10 (h .seekinfo)))
+      (stopAt (freeAnswer (h .seekfree) span.Bad))
+  onHead s h qs header.Bad = stopAt (headAnswer header.Bad)
 
-abbrev pub onOpened : List ℕ → ℕ → Opened → Verdict
-onOpened s room (opened.Good h) = onChain s room h (chain s (length s) 100)
-onOpened s room (opened.Refused c) = refusedAs (openAnswer (opened.Refused c))
+  unfoldable pub ruled : List ℕ → FileHead → List ℕ → Turn
+  ruled s h qs = onHead s h qs (headIn s (h .nbytesname))
 
-unfoldable pub verdict : List ℕ → ℕ → Verdict
-verdict s room = onOpened s room (openedAs s)
+  -- 7 unfinished: pieces exceed room
+  abbrev pub onChain : List ℕ → ℕ → FileHead → Chain → Verdict
+  onChain s room h (whole qs) = pick (leb (length qs) room) (onTurn qs (ruled s h qs)) (refused 7 0 (length qs))
+  onChain s room h (fault c p) = refused c p 0
+
+  abbrev pub onOpened : List ℕ → ℕ → Opened → Verdict
+  onOpened s room (opened.Good h) = onChain s room h (chain s (length s) 100)
+  onOpened s room (opened.Refused c) = refusedAs (openAnswer (opened.Refused c))
+
+  unfoldable pub verdict : List ℕ → ℕ → Verdict
+  verdict s room = onOpened s room (openedAs s)
 
 -- what is given back: a pass is 0, 0, pieces; the rows, or none
 abbrev pub numberOf : Verdict → ℕ

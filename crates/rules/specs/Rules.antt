@@ -19,7 +19,7 @@ use Rattle.directory.specs.declared.Dir.the-variants.{Held}
 use Rattle.directory.specs.declared.DirHead.{DirHead}
 use Rattle.fileheader.specs.declared.FileHead.{FileHead}
 use Rattle.rules.specs.Entry.{entryFits, listedPart}
-use Rattle.rules.specs.Free.{isGap, Free, infoHolds}
+use Rattle.rules.specs.Free.{Mode, isGap, Free, infoHolds}
 use Rattle.rules.specs.Part.{gap, head, free, info, keys, listed, dir, unlisted}
 use Rattle.rules.specs.Row.{starts}
 
@@ -105,7 +105,8 @@ module _ (s : List ℕ) (h : FileHead) (qs ps os : List ℕ) where
   abbrev pub Lists : ℕ → ℕ → Type 0
   Lists d p = (dh : DirHead) × (ks : List Key) × DirectoryAt d dh × KeysAre s qs d dh ks × In p (places ks)
 
-  pub record Rules : Type 0 where
+  -- of one audit or the other: only the free list rule depends on it
+  pub record Rules (mode : Mode) : Type 0 where
     -- a part and an owner beside each piece of the partition
     pub parts : length ps ≡ length qs
     pub owners : length os ≡ length qs
@@ -114,7 +115,7 @@ module _ (s : List ℕ) (h : FileHead) (qs ps os : List ℕ) where
     pub known : (i : ℕ) → IsRow i → part i ≤ unlisted
     -- Head, Free list, Info
     pub headRule : (dh : DirHead) × (headIn s (h .nbytesname) ≡ Held dh)
-    pub freeRule : Free s qs h
+    pub freeRule : Free mode s qs h
     pub infoRule : infoHolds s qs h ≡ true
     -- a gap is exactly part 0
     pub gapPart : (i : ℕ) → IsRow i → Iff (part i ≡ gap) (isGap (pieceAt s (start i)) ≡ true)

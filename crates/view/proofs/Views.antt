@@ -16,6 +16,7 @@ use Rattle.key.specs.declared.piece.Piece.{Piece}
 use Rattle.key.proofs.Pieces.{View, no-size, no-key, a-record, a-gap, view}
 use Rattle.table.specs.Table.{filledWith, filled}
 use Rattle.rules.specs.Demand.{Demand, Passes}
+use Rattle.rules.specs.Free.{Mode, compared}
 use Rattle.rules.specs.Order.{Verdict, passed, refused, verdict, numberOf, startsOf, partsOf, ownersOf}
 use Rattle.rules.proofs.Partitions.{above, sized-at}
 use Rattle.audit.specs.Tables.{AuditsWithin}
@@ -108,8 +109,8 @@ shows-rows s qs ps os h a b c m l =
         length-append (rows s qs ps os) (replicate (m - length (rows s qs ps os)) noRow)
         ∙ omega (arith, length-replicate (m - length (rows s qs ps os)) noRow, count-rows s qs ps os h)
 
-pieces : {s : List ℕ} {room : ℕ} {qs ps os : List ℕ} → Passes s room qs ps os → Sized s qs ps os
-pieces {s} {qs = qs} k = record {
+pieces : {mode : Mode} {s : List ℕ} {room : ℕ} {qs ps os : List ℕ} → Passes mode s room qs ps os → Sized s qs ps os
+pieces {s = s} {qs = qs} k = record {
   parts = k .rules .parts;
   owners = k .rules .owners;
   some = λ i l e. omega (arith, e, above s 100 qs (length s) (k .partition .1) i l);
@@ -117,8 +118,8 @@ pieces {s} {qs = qs} k = record {
 }
 
 -- the rows of a verdict, in a list that is no shorter than the room
-module _ (s : List ℕ) (room m : ℕ) (l : room ≤ m) (d : Demand s room) (a b c : ℕ) where
-  told-rows : (v : Verdict) → verdict s room ≡ v
+module _ (s : List ℕ) (room m : ℕ) (l : room ≤ m) (d : Demand compared s room) (a b c : ℕ) where
+  told-rows : (v : Verdict) → verdict compared s room ≡ v
       → upTo (rowAt s (filled (startsOf v) a) (filled (partsOf v) b) (filled (ownersOf v) c)) m ≡ filledWith noRow (rowsOf s v) m
   told-rows (refused n p k) e = shows-rows s [] [] [] none a b c m (omega arith)
     where
@@ -131,15 +132,15 @@ module _ (s : List ℕ) (room m : ℕ) (l : room ≤ m) (d : Demand s room) (a b
       shows-rows s qs ps os (there (ap startsOf f) (ap partsOf f) (ap ownersOf f) k) a b c m
       (omega (arith, k .fits, ap (λ (v : Verdict). length (startsOf v)) f))
     where
-      there : {us vs ws : List ℕ} → us ≡ qs → vs ≡ ps → ws ≡ os → Passes s room us vs ws → Sized s qs ps os
+      there : {us vs ws : List ℕ} → us ≡ qs → vs ≡ ps → ws ≡ os → Passes compared s room us vs ws → Sized s qs ps os
       there x y z k = rw (x, y, z) at (pieces k)
 
-  pub told-list : upTo (rowAt s (filled (startsOf (verdict s room)) a) (filled (partsOf (verdict s room)) b)
-      (filled (ownersOf (verdict s room)) c)) m ≡ filledWith noRow (rowsOf s (verdict s room)) m
-  told-list = told-rows (verdict s room) refl
+  pub told-list : upTo (rowAt s (filled (startsOf (verdict compared s room)) a) (filled (partsOf (verdict compared s room)) b)
+      (filled (ownersOf (verdict compared s room)) c)) m ≡ filledWith noRow (rowsOf s (verdict compared s room)) m
+  told-list = told-rows (verdict compared s room) refl
 
 -- what the audit and the list promise together
-pub views : {file start part owner : Lent} {list : LentOf Row} {r : Answer} → AuditsWithin (length (before list)) file start part owner r
+pub views : {file start part owner : Lent} {list : LentOf Row} {r : Answer} → AuditsWithin compared (length (before list)) file start part owner r
     → after list ≡ upTo (rowAt (before file) (after start) (after part) (after owner)) (length (before list))
     → Views file start part owner list r
 views {file} {list = list} k e = record {

@@ -10,6 +10,7 @@ use Rattle.wire.specs.Lent.{Lent, LentOf, before, after}
 use Rattle.wire.specs.declared.Answer.{Answer}
 use Rattle.key.specs.Piece.{sizeAt, pieceAt, sizeOf}
 use Rattle.table.specs.Table.{filledWith}
+use Rattle.rules.specs.Free.{compared}
 use Rattle.rules.specs.Order.{Verdict, startsOf, partsOf, ownersOf}
 use Rattle.audit.specs.Tables.{toldWithin, AuditsWithin}
 use Rattle.view.specs.declared.Row.{Row}
@@ -48,6 +49,6 @@ module _ (file start part owner : Lent) (list : LentOf Row) where
   entries = length (before list)
 
   pub record Views (r : Answer) : Type 0 where
-    pub audits : AuditsWithin entries file start part owner r
-    pub shown : after list ≡ filledWith noRow (rowsOf (before file) (toldWithin entries file start part owner)) entries
+    pub audits : AuditsWithin compared entries file start part owner r
+    pub shown : after list ≡ filledWith noRow (rowsOf (before file) (toldWithin compared entries file start part owner)) entries
     pub same : after list ≡ upTo (rowAt (before file) (after start) (after part) (after owner)) entries

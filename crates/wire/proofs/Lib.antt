@@ -1,6 +1,8 @@
+pub mod Agrees
 pub mod Answers
 pub mod Checks
 pub mod Equal
+pub mod Every
 pub mod Layouts
 pub mod Numbers
 pub mod Patches

@@ -1,13 +1,14 @@
--- Laws of `patch`: bytes written over a part of a buffer; and one of a list that repeats one thing.
+-- Laws of `patch`: bytes written over a part of a buffer, those before and after them; and one of a list that repeats one thing.
 use Prim.Native.Nat.{ℕ, zero, suc, _+_, _-_, _<_, _≤_}
 use mathlib.Core.List.{List, [], _∷_, _++_, append-assoc, append-nil}
-use mathlib.Core.Path.{_≡_, refl, ap, _∙_}
+use mathlib.Core.Path.{_≡_, refl, sym, ap, _∙_}
 use native.Mathlib.Nat.{zero-add, add-zero, add-assoc}
 use native.Mathlib.Numerals.{add-one}
 use native.Mathlib.Omega.{arith}
-use lib.ListN.{length, getD, take, drop, set, replicate, length-append, length-take, length-drop, drop-of-length-le, take-append-drop}
-use lib.Seq.{take-all, take-at, drop-at, drop-drop, set-split, length-take-le}
+use lib.ListN.{length, getD, take, drop, set, replicate, length-append, length-take, length-drop, drop-of-length-le, take-append-drop, List·getD-append}
+use lib.Seq.{take-all, take-at, drop-at, drop-drop, drop-append-seam, getD-take, getD-drop, set-split, length-take-le}
 use borrow.Rule.Slice.PartMut.{midOf, putMid}
+use Rattle.wire.specs.Agree.{Agree}
 use Rattle.wire.specs.Patch.{patch}
 
 -- what was written at the front of the part from at on was written into the whole at at
@@ -84,3 +85,29 @@ pub repeated-at : {A : Type 0} (d : A) (n i : ℕ) → getD (replicate n d) i d 
 repeated-at d zero i = refl
 repeated-at d (suc n) zero = refl
 repeated-at d (suc n) (suc i) = repeated-at d n i
+
+-- bytes before and after those that are written
+module _ (b : List ℕ) (at : ℕ) (x : List ℕ) (l : at + length x ≤ length b) where
+  pub patch-before : Agree b (patch b at x) 0 at
+  unfolding patch
+  patch-before = record {
+    left = omega arith;
+    right = omega (arith, length-patch b at x l);
+    same = λ i m n. sym (List·getD-append (take at b) (x ++ drop (at + length x) b) 0 i (rw (length-take-le at b (omega arith)) n) ∙ getD-take at b i 0 n);
+  }
+
+  drop-after : drop (at + length x) (patch b at x) ≡ drop (at + length x) b
+  drop-after =
+      sym (drop-drop (length x) at (patch b at x)) ∙ ap (drop (length x)) (drop-patch b at x l)
+      ∙ drop-append-seam x (drop (at + length x) b)
+
+  pub patch-after : Agree b (patch b at x) (at + length x) (length b)
+  patch-after = record {
+    left = omega arith;
+    right = omega (arith, length-patch b at x l);
+    same = λ i m n.
+        let j : at + length x + (i - (at + length x)) ≡ i = omega arith in
+        let f = getD-drop (at + length x) b (i - (at + length x)) 0 in
+        let g = getD-drop (at + length x) (patch b at x) (i - (at + length x)) 0 in
+        rw j at (sym f ∙ ap (λ (y : List ℕ). getD y (i - (at + length x)) 0) (sym drop-after) ∙ g);
+  }

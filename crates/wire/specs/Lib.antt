@@ -1,3 +1,4 @@
+pub mod Agree
 pub mod Answer
 pub mod Check
 pub mod Equal

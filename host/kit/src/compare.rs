@@ -10,6 +10,7 @@ use std::hint::black_box;
 
 pub mod audit;
 pub mod info;
+pub mod salvage;
 mod table;
 pub mod view;
 

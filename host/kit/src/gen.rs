@@ -5,6 +5,7 @@ use second::key::NewKey;
 use second::width;
 use strings::{any_length, counted, length_size};
 
+pub mod broken;
 pub mod faults;
 pub mod fields;
 pub mod files;

@@ -1,7 +1,7 @@
 //! The programs that the benchmarks compare, each called in the same way.
 
 use programs::ffi;
-use second::{audit, fast, streamer, Answer};
+use second::{audit, fast, salvage, streamer, Answer};
 use std::hint::black_box;
 
 #[derive(Clone, Copy, Debug, PartialEq, Eq)]
@@ -27,6 +27,15 @@ impl Program {
             Program::Library => answered(|place, count| ffi::audit::audit(file, tables, place, count)),
             Program::Second => black_box(audit::audit(file, tables[0].len())).0,
             Program::Fast => fast::audit::audit(file, tables),
+        }
+    }
+
+    /// Salvages a file. The second program takes no scratch.
+    pub fn salvage(self, file: &mut [u8], seen: &mut [u8]) -> Answer {
+        match self {
+            Program::Library => answered(|place, count| ffi::salvage::salvage(file, seen, place, count)),
+            Program::Second => salvage::salvage(file),
+            Program::Fast => fast::salvage::salvage(file, seen),
         }
     }
 

@@ -9,6 +9,7 @@ mod c;
 pub mod info;
 pub mod number;
 pub mod part;
+pub mod salvage;
 pub mod version;
 pub mod view;
 

@@ -2,7 +2,7 @@
 
 use super::bytes::Cursor;
 use super::key::{self, Key, Piece};
-use super::{number, part, width, Answer};
+use super::{number, part, width, Answer, Mode};
 use std::collections::BTreeMap;
 use std::ops::Range;
 
@@ -23,19 +23,24 @@ pub struct Row {
 
 /// The audit with tables of `room` rows: its answer, and the rows of a pass.
 pub fn audit(file: &[u8], room: usize) -> (Answer, Vec<Row>) {
-    match rows_or_refusal(file, room) {
+    audit_in(Mode::Compared, file, room)
+}
+
+/// Either audit.
+pub fn audit_in(mode: Mode, file: &[u8], room: usize) -> (Answer, Vec<Row>) {
+    match rows_or_refusal(mode, file, room) {
         Ok(rows) => (Answer::success(rows.len() as u64), rows),
         Err(answer) => (answer, Vec::new()),
     }
 }
 
-fn rows_or_refusal(file: &[u8], room: usize) -> Result<Vec<Row>, Answer> {
+fn rows_or_refusal(mode: Mode, file: &[u8], room: usize) -> Result<Vec<Row>, Answer> {
     let header = Header::good(file).map_err(|number| Answer::refusal(number, 0))?;
-    let rows = chain(file)?;
+    let rows = chain(file, BEGIN as u64)?;
     if rows.len() > room {
         return Err(Answer { number: number::UNFINISHED, place: 0, count: rows.len() as u64 });
     }
-    let mut audit = Audit { file, rows };
+    let mut audit = Audit { mode, file, rows };
     let directory = audit.head(&header).ok_or(Answer::refusal(number::HEAD, BEGIN as u64))?;
     audit.free(&header).ok_or(Answer::refusal(number::FREE, header.seek_free))?;
     audit.info(&header).ok_or(Answer::refusal(number::INFO, header.seek_info))?;
@@ -45,11 +50,11 @@ fn rows_or_refusal(file: &[u8], room: usize) -> Result<Vec<Row>, Answer> {
 
 /// How many pieces fill the file from 100 on, if they do.
 pub fn pieces(file: &[u8]) -> Option<usize> {
-    chain(file).ok().map(|rows| rows.len())
+    chain(file, BEGIN as u64).ok().map(|rows| rows.len())
 }
 
 /// The fields of the file header, but for Compress.
-struct Header {
+pub(crate) struct Header {
     version: u32,
     begin: u32,
     end: u64,
@@ -76,7 +81,7 @@ impl Header {
     }
 
     /// The header of a file if it is good, or the number of the refusal.
-    fn good(file: &[u8]) -> Result<Self, u64> {
+    pub(crate) fn good(file: &[u8]) -> Result<Self, u64> {
         let header = Header::read(file).ok_or(number::SHORT)?;
         if !file.starts_with(b"root") {
             return Err(number::MAGIC);
@@ -111,10 +116,10 @@ impl Header {
     }
 }
 
-/// The pieces from 100 to the end, each record unlisted as yet.
-fn chain(file: &[u8]) -> Result<Vec<Row>, Answer> {
+/// The pieces from a place to the end, each record unlisted as yet.
+pub(crate) fn chain(file: &[u8], from: u64) -> Result<Vec<Row>, Answer> {
     let mut rows = Vec::new();
-    let mut at = BEGIN as u64;
+    let mut at = from;
     while at < file.len() as u64 {
         let piece = key::read_piece(file, at).map_err(|number| Answer::refusal(number, at))?;
         let part = match piece {
@@ -193,6 +198,7 @@ impl Record {
 }
 
 struct Audit<'a> {
+    mode: Mode,
     file: &'a [u8],
     rows: Vec<Row>,
 }
@@ -253,7 +259,7 @@ impl Audit<'_> {
             && self.text(&record.key.class) == b"TFile"
             && segments.len() as u64 == u64::from(header.nfree)
             && header.is_final(segments.pop()?)
-            && segments == self.gaps();
+            && (self.mode == Mode::Apart || segments == self.gaps());
         good.then(|| self.give(record.row, part::FREE, 0)).flatten()
     }
 

@@ -3,10 +3,11 @@
 //!
 //! - `number`, `part`, `answer`: what is answered.
 //! - `bytes`, `width`, `date`, `key`: numbers and strings, packed dates, key headers, pieces and the key writer.
-//! - `audit`, `rules`: the audit, and the rules for a pass once more, written naively.
+//! - `audit`, `rules`: the audit, and the rules for a pass once more, written naively; `mode` is which of the two audits.
+//! - `salvage`: a gap over what breaks the chain.
 //! - `view`: an audit's rows as a viewer has them.
 //! - `streamer`: the StreamerInfo reader.
-//! - `fast`: audit and StreamerInfo reader once more, written for speed.
+//! - `fast`: audit, salvage and StreamerInfo reader once more, written for speed.
 
 #![forbid(unsafe_code)]
 
@@ -26,11 +27,14 @@ pub mod bytes;
 pub mod date;
 pub mod fast;
 pub mod key;
+pub mod mode;
 pub mod number;
 pub mod part;
 pub mod rules;
+pub mod salvage;
 pub mod streamer;
 pub mod view;
 pub mod width;
 
 pub use answer::Answer;
+pub use mode::Mode;

@@ -1,4 +1,4 @@
-//! The numbers that are answered, in the order of document 01's table: 0 is success.
+//! The numbers that are answered: 0 is success, then those of document 01's table in its order.
 
 counted! {
     SUCCESS
@@ -8,3 +8,6 @@ counted! {
     NAME FIELD ROOM DATE
     PACKED NOT_INFO COUNT TAG REFERENCED ROWS
 }
+
+// That of document 02's request 10.
+counted! { 27; SALVAGE }

@@ -2,7 +2,7 @@
 //! are checked for every set of directories that could be, without any order: slow, and for small files only.
 
 use super::audit::Row;
-use super::part;
+use super::{part, Mode};
 use std::collections::{HashMap, HashSet};
 
 /// Sets of more directories than this are not tried.
@@ -10,10 +10,15 @@ const MOST_DIRECTORIES: usize = 12;
 
 /// Every assignment that meets the rules, as rows. There should never be two.
 pub fn assignments(file: &[u8]) -> Vec<Vec<Row>> {
+    assignments_in(Mode::Compared, file)
+}
+
+/// The same of the rules of either audit.
+pub fn assignments_in(mode: Mode, file: &[u8]) -> Vec<Vec<Row>> {
     let Some((header, partition)) = header(file).zip(partition(file, 100)) else {
         return Vec::new();
     };
-    let mut rules = Rules { file, header, partition, lists: HashMap::new() };
+    let mut rules = Rules { mode, file, header, partition, lists: HashMap::new() };
     if !(rules.head_holds() && rules.free_holds() && rules.info_holds()) {
         return Vec::new();
     }
@@ -174,6 +179,7 @@ fn segments(data: &[u8], most_version: usize) -> Option<Vec<(usize, usize)>> {
 type List<'a> = (usize, Vec<Key<'a>>);
 
 struct Rules<'a> {
+    mode: Mode,
     file: &'a [u8],
     header: Header,
     partition: Vec<(usize, bool)>,
@@ -244,7 +250,7 @@ impl<'a> Rules<'a> {
             && key.nbytes == nbytes_free
             && nfree >= 1
             && segments.len() == nfree
-            && segments[..nfree - 1] == self.gaps()
+            && (self.mode == Mode::Apart || segments[..nfree - 1] == self.gaps())
             && self.is_final(segments[nfree - 1])
     }
 

@@ -12,7 +12,8 @@ rows : (c : tie.Joined1) →
     let c16 = c8 .before .before .before .before .before .before .before .before in
     let a = c16 .args in
     let x = c8 .examine .last in
-    Rows (verdict (now (a .file)) (roomIn (a .limit) (now (a .start)) (now (a .part)) (now (a .owner)))) (c .if1 .n) (x .1 .0) (x .1 .1 .0) (x .1 .1 .1 .0)
+    let room = roomIn (a .limit) (now (a .start)) (now (a .part)) (now (a .owner)) in
+    Rows (verdict (a .compare) (now (a .file)) room) (c .if1 .n) (x .1 .0) (x .1 .1 .0) (x .1 .1 .1 .0)
 rows c =
     let e = c .before .before .before .before .before .before .before .before .examine .ensures in
     ⊎-elim (λ a. rows-some e (a .0 .taken) (a .1)) (λ a. rows-none e (a .0 .left) (a .1)) (c .if1 .came)
@@ -38,7 +39,7 @@ returns c =
     let c17 = c15 .before .before in
     let c19 = c17 .before .before in
     let c20 = c19 .before in
-    audited _ _ _ _ _ _ _ _ _ (c20 .examine .ensures .0) (rows c12) (c19 .start .given) (c17 .part .given)
+    audited _ _ _ _ _ _ _ _ _ _ (c20 .examine .ensures .0) (rows c12) (c19 .start .given) (c17 .part .given)
     (c15 .owner .given) (c10 .clear .ensures) (c6 .clear2 .ensures) (c .before .before .clear3 .ensures)
 
 pub audit-within-spec : {M : Type 1} → statement M

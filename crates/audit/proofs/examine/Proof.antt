@@ -38,7 +38,7 @@ refused-requires : tie.Need-refused-requires
 refused-requires c κs = search needs
 
 returns : tie.Need-returns
-returns c = header-refused _ _ _ _ _ (sym (c .before .before .c .given .1) ∙ c .before .before .before .before .«open» .ensures .is) (c .refused .ensures)
+returns c = header-refused _ _ _ _ _ _ (sym (c .before .before .c .given .1) ∙ c .before .before .before .before .«open» .ensures .is) (c .refused .ensures)
 
 walk-requires : tie.Need-walk-requires
 walk-requires c κs = search needs
@@ -52,7 +52,7 @@ returns-2 c =
     let c9 = c6 .before .before .before in
     let c11 = c9 .before .before in
     let o = sym (c9 .h .given .1) ∙ c11 .«open» .ensures .is in
-    chain-refused _ _ _ _ _ _ o (c .before .before .c2 .given .1) (c6 .walk .ensures .long (opened-long _ (sym o))) (c .refused2 .ensures)
+    chain-refused _ _ _ _ _ _ _ o (c .before .before .c2 .given .1) (c6 .walk .ensures .long (opened-long _ (sym o))) (c .refused2 .ensures)
 
 least-requires : tie.Need-least-requires
 least-requires c κs = search needs
@@ -66,7 +66,7 @@ returns-3 c =
     let c19 = c4 .before .before .before .before .before .before .before .before .before .before .before .before .before .before .before in
     let a = c19 .args in
     entire-seven (whole c4) (a .limit) (now (a .part)) (now (a .owner)) (c .before .least3 .ensures) (c .before .before .least2 .ensures)
-    (c .before .before .before .least .ensures) _ _ (c .if1 .taken)
+    (c .before .before .before .least .ensures) _ _ _ (c .if1 .taken)
 
 slice-reshare-prefix-survey : tie.Need-slice-reshare-prefix-survey
 slice-reshare-prefix-survey c = entire-room (whole (c .before .before .before .before)) (room c)
@@ -106,7 +106,7 @@ returns-4 c =
     let c11 = c7 .before .before .before .before in
     let c14 = c11 .before .before .before .before in
     let s = c7 .survey in
-    entire-passes (whole c14) (room c11) (s .last .1 .1 .0) (s .last .1 .1 .1 .0) _ _
+    entire-passes (whole c14) (room c11) _ (s .last .1 .1 .0) (s .last .1 .1 .1 .0) _ _
     (c6 .part .given .0) (c4 .owner .given .0) (c .before .enum-told .given .1) (s .ensures) (c .finished .ensures)
 
 returns-5 : tie.Need-returns-5
@@ -114,7 +114,7 @@ returns-5 c =
     let c8 = c .before .before .before .before .before .before .before .before in
     let c12 = c8 .before .before .before .before in
     let c15 = c12 .before .before .before .before in
-    entire-stops (whole c15) (room c12) _ _ _ _ (c .before .before .c3 .given .1) (c8 .survey .ensures) (c .refused3 .ensures)
+    entire-stops (whole c15) (room c12) _ _ _ _ _ (c .before .before .c3 .given .1) (c8 .survey .ensures) (c .refused3 .ensures)
 
 pub examine-spec : {M : Type 1} → statement M
 examine-spec =

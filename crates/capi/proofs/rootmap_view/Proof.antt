@@ -43,6 +43,7 @@ use denote.Triple.Clauses.{ensured, lasts, Lasts}
 use denote.Triple.Walked.{says, Stays, stay-dropped, stay-slice, gave-slice, gave-ref, walkOf, goes-dropped, goes-slice, goes-gave-slice, goes-gave-ref}
 use denote.Triple.Walked.{Walks, ends-at, walked, walk-meets}
 use denote.Exit.{yes}
+use Rattle.rules.specs.Free.{compared}
 use Rattle.audit.specs.Tables.{AuditsWithin}
 use Rattle.view.specs.declared.Row.{Row}
 use Rattle.view.specs.View.{rowAt, upTo, Views}
@@ -177,7 +178,7 @@ module _ {M : Type 1} (𝓤 : URA M) (H : Heap 𝓤) (A : Atoms 𝓤) (W : Given
   -- what the audit said, of the tables under the names of its call; and what is promised
   abbrev Audited : (δ₁ δ₂ δ₃ : GName) (s′ p′ o′ : List ℕ) (a c n : ℕ) → Type 0
   Audited δ₁ δ₂ δ₃ s′ p′ o′ a c n =
-      AuditsWithin m (from-to fs fs) (from-to (at ss δ₁ (ss .now)) (at ss δ₁ s′)) (from-to (at ps δ₂ (ps .now)) (at ps δ₂ p′))
+      AuditsWithin compared m (from-to fs fs) (from-to (at ss δ₁ (ss .now)) (at ss δ₁ s′)) (from-to (at ps δ₂ (ps .now)) (at ps δ₂ p′))
       (from-to (at os δ₃ (os .now)) (at os δ₃ o′)) (told n (from-to pl (at pl (pl .name) a)) (from-to ct (at ct (ct .name) c)))
 
   abbrev Viewed : (s′ p′ o′ : List ℕ) (l′ : List Row) (a c n : ℕ) → Type 0

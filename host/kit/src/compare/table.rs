@@ -5,7 +5,7 @@ use std::hint::black_box;
 /// Guard numbers before and after a lent table.
 const GUARD: usize = 4;
 
-/// A table that is lent, full of what an earlier call may have left, between two guards.
+/// A table or a buffer that is lent, full of what an earlier call may have left, between two guards.
 pub struct Table<T> {
     numbers: Vec<T>,
     guard: T,
@@ -13,9 +13,16 @@ pub struct Table<T> {
 
 impl<T: Copy + Default + PartialEq> Table<T> {
     pub fn new(len: usize, fill: T, guard: T) -> Self {
-        let mut numbers = vec![guard; len + 2 * GUARD];
-        numbers[GUARD..GUARD + len].fill(fill);
-        Table { numbers, guard }
+        let mut table = Table { numbers: vec![guard; len + 2 * GUARD], guard };
+        table.lent().fill(fill);
+        table
+    }
+
+    /// One that holds these numbers.
+    pub fn of(numbers: &[T], guard: T) -> Self {
+        let mut table = Self::new(numbers.len(), guard, guard);
+        table.lent().copy_from_slice(numbers);
+        table
     }
 
     pub fn lent(&mut self) -> &mut [T] {

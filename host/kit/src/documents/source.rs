@@ -109,8 +109,9 @@ impl Source {
         if let Some(one) = self.functions.iter().find(|one| one.text.contains(text)) {
             return (one.name.clone(), vec![one]);
         }
-        let above = self.text.split(text).next().unwrap_or_default();
-        let name = above.rsplit("const ").next().and_then(|rest| rest.split(':').next()).unwrap_or_default();
+        let end = self.text.find(text).map_or(0, |place| place + text.len());
+        let constant = self.text[..end].rsplit("const ").next();
+        let name = constant.and_then(|rest| rest.split(':').next()).unwrap_or_default();
         (name.to_owned(), self.functions.iter().filter(|one| one.text.contains(name)).collect())
     }
 

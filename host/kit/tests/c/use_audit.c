@@ -1,5 +1,5 @@
-/* Audits one.root from C, with four-byte and with eight-byte offsets, into tables and into a list for a viewer, and
-   checks what is answered and written. */
+/* Audits one.root from C, with four-byte and with eight-byte offsets, into tables and into a list for a viewer, breaks
+   and salvages it, and checks what is answered and written. */
 #include "rootmap.h"
 
 #include <stdio.h>
@@ -119,6 +119,13 @@ static uint64_t audit(size_t start_len, size_t part_len, size_t owner_len)
                          &count);
 }
 
+static uint64_t audit_salvaged(size_t rows)
+{
+    memset(tables, 0x5a, sizeof tables);
+    place = count = 9;
+    return rootmap_audit_salvaged(file, end, tables[0], rows, tables[1], rows, tables[2], rows, &place, &count);
+}
+
 static uint64_t view(size_t start_len, size_t part_len, size_t owner_len, size_t list_len)
 {
     memset(tables, 0x5a, sizeof tables);
@@ -196,6 +203,48 @@ static void rows(const uint32_t *starts)
           "zeros after 9");
 }
 
+/* Whether the file is salvaged with this number, place and count, its bytes from `at` on hold `value` and no others are
+   changed, and the scratch holds zeros. */
+static int salvages(uint64_t expected, uint64_t at, uint64_t until, uint32_t value)
+{
+    static uint8_t before[sizeof file], seen[sizeof file / 8 + 2];
+    uint64_t result;
+    size_t i;
+
+    memset(seen, 0xff, sizeof seen);
+    place = count = 9;
+    memcpy(before, file, sizeof file);
+    result = rootmap_salvage(file, end, seen, sizeof seen - 1, &place, &count);
+    for (i = 0; i < sizeof seen; i++)
+        if (seen[i] != (i < sizeof seen - 1 ? 0 : 0xff))
+            return 0;
+    for (i = 0; i < sizeof file; i++)
+        if (file[i] != (value != 0 && i - at < 4 ? (uint8_t)(value >> (8 * (3 - (i - at)))) : before[i]))
+            return 0;
+    return result == expected && place == at && count == until;
+}
+
+/* The gap's segment is no gap's: 9 by the audit alone. */
+static void salvage(const uint32_t *starts)
+{
+    check(audit_salvaged(5) == ROOTMAP_PASSED && place == 0 && count == 5, "segments are not compared");
+    check(tables[0][3] == starts[3] && tables[1][4] == ROOTMAP_PART_FREE && tables[2][1] == 100, "its rows");
+    check(audit_salvaged(4) == ROOTMAP_UNFINISHED && place == 0 && count == 5, "room 4 is 7 there too");
+
+    check(salvages(ROOTMAP_PASSED, end, end, 0), "a good chain is as it was");
+    number(starts[3], 0);
+    check(audit(5, 5, 5) == ROOTMAP_CHAIN && place == starts[3], "the chain is broken");
+    check(salvages(ROOTMAP_PASSED, starts[3], starts[4], (uint32_t)-12), "the gap is written");
+    check(audit_salvaged(5) == ROOTMAP_PASSED && count == 5, "it passes");
+    number(starts[1], 3);
+    check(salvages(ROOTMAP_PASSED, starts[1], starts[2], starts[1] - starts[2]), "the object is lost");
+    check(audit_salvaged(5) == ROOTMAP_ENTRY && place == starts[2] + 31 + 2 * width, "it is listed");
+    number(starts[4], (uint32_t)end - starts[4] - 3);
+    check(salvages(ROOTMAP_SALVAGE, end - 3, 0, 0), "three bytes are left");
+    file[0] = 'R';
+    check(salvages(ROOTMAP_MAGIC, 0, 0, 0), "another file");
+}
+
 int main(void)
 {
     static const uint32_t narrow[5] = {100, 168, 218, 297, 309};
@@ -205,6 +254,7 @@ int main(void)
     width = 4;
     one_root(62400, narrow, 2000000000);
     rows(narrow);
+    salvage(narrow);
 
     end = 432;
     width = 8;
@@ -213,6 +263,8 @@ int main(void)
     /* SeekFree past 32 bits is the place of 9. */
     offset(20, UINT64_MAX);
     check(audit(5, 5, 5) == 9 && place == UINT64_MAX && count == 0, "the place of 9 is SeekFree");
+    offset(20, wide[4]);
+    salvage(wide);
     if (failed)
         return 1;
     printf("all checks passed\n");

@@ -90,6 +90,18 @@ static void audits(void)
     check(is_zero(tables, sizeof tables) && is_zero(list, sizeof list), "its tables and list");
 }
 
+static void salvages(void)
+{
+    uint8_t seen[ROOM];
+
+    memset(seen, 0x5a, sizeof seen);
+    check(rootmap_salvage(NULL, 0, seen, ROOM, &place, &count) == ROOTMAP_SHORT && told(0, 0), "no file to salvage");
+    check(is_zero(seen, sizeof seen), "its scratch");
+    check(rootmap_salvage(NULL, 0, NULL, 0, &place, &count) == ROOTMAP_SHORT && told(0, 0), "no scratch either");
+    check(rootmap_audit_salvaged(NULL, 0, NULL, 0, NULL, 0, NULL, 0, &place, &count) == ROOTMAP_SHORT && told(0, 0),
+          "no salvaged file");
+}
+
 /* A header, and a record to its end: one piece. */
 static void one_piece(void)
 {
@@ -105,6 +117,18 @@ static void one_piece(void)
                   ROOTMAP_UNFINISHED &&
               told(0, 1),
           "no rows and no list are 7");
+    check(rootmap_audit_salvaged(file, sizeof file, NULL, 0, NULL, 0, NULL, 0, &place, &count) ==
+                  ROOTMAP_UNFINISHED &&
+              told(0, 1),
+          "no rows are 7 for a salvaged file");
+    check(rootmap_salvage(file, sizeof file, NULL, 0, &place, &count) == ROOTMAP_PASSED &&
+              told(sizeof file, sizeof file),
+          "a good chain without a scratch");
+    file[100] = 0xff;
+    check(rootmap_salvage(file, sizeof file, NULL, 0, &place, &count) == ROOTMAP_PASSED && told(100, sizeof file) &&
+              memcmp(file + 100, "\377\377\377\316", 4) == 0,
+          "a broken one without a scratch");
+    memcpy(file + 100, "\0\0\0\62", 4);
     memset(tables, 0x5a, sizeof tables);
     check(rootmap_audit(file, sizeof file, tables[0], ROOM, NULL, 0, tables[2], ROOM, &place, &count) ==
                   ROOTMAP_UNFINISHED &&
@@ -123,6 +147,7 @@ int main(void)
     pieces();
     infos();
     audits();
+    salvages();
     one_piece();
     if (failed)
         return 1;

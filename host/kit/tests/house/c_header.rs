@@ -25,7 +25,7 @@ fn c_plus_plus_takes_the_header() {
 }
 
 /// The names of the numbers.
-const NUMBERS: [(&str, u64); 25] = [
+const NUMBERS: [(&str, u64); 26] = [
     ("PASSED", 0),
     ("SHORT", number::SHORT),
     ("MAGIC", number::MAGIC),
@@ -51,6 +51,7 @@ const NUMBERS: [(&str, u64); 25] = [
     ("TAG", number::TAG),
     ("REFERENCED", number::REFERENCED),
     ("ROWS", number::ROWS),
+    ("SALVAGE", number::SALVAGE),
 ];
 
 /// The names of the fields of a piece.
@@ -101,7 +102,7 @@ fn the_manual_has_all() {
     let lines: Vec<&str> = manual.lines().collect();
     let functions = header.lines().filter(|line| line.starts_with("uint64_t ") || line.starts_with("void "));
     let functions: Vec<&str> = functions.map(|line| line.split(['(', ' ']).nth(1).unwrap()).collect();
-    assert_eq!(functions.len(), 8);
+    assert_eq!(functions.len(), 10);
     let (names, rest) = manual.split_once(".SH SYNOPSIS\n").unwrap();
     let (synopsis, described) = rest.split_once(".SH DESCRIPTION\n").unwrap();
     for function in functions {

@@ -5,6 +5,7 @@ use kit::harness::command::{folder, printed, rootaudit, shell, store, FAILED, PA
 use kit::harness::folder::{code, document, repository};
 use programs::ffi::Answer;
 use programs::rootaudit::words::refusal;
+use second::number;
 use std::fs;
 use std::path::Path;
 use std::process::Command;
@@ -75,8 +76,10 @@ fn one_table_of_refusals() {
     let (_, table) = readme.split_once("| number |").unwrap();
     let rows = table.lines().skip(2).take_while(|line| line.starts_with('|'));
     let rows: Vec<Vec<&str>> = rows.map(|row| row.split('|').map(str::trim).collect()).collect();
-    assert_eq!(rows.len(), 24);
-    for (number, row) in (1..).zip(&rows) {
+    // 25 stands in no paper, and 26 is of a request that is not in.
+    let numbers: Vec<u64> = (1..=24).chain([number::SALVAGE]).collect();
+    assert_eq!(rows.len(), numbers.len());
+    for (number, row) in numbers.into_iter().zip(&rows) {
         assert_eq!((row[1], row.len()), (number.to_string().as_str(), 7), "{row:?}");
         if (1..=14).contains(&number) && number != 7 {
             let (_, next) = refusal(&Answer::refusal(number, 309), &one_root());

@@ -31,6 +31,17 @@ extern "C" {
         place: *mut u64, count: *mut u64,
     ) -> u64;
 
+    pub fn rootmap_audit_salvaged(
+        file: *const u8, file_len: usize, start: *mut u64, start_len: usize,
+        part: *mut u64, part_len: usize, owner: *mut u64, owner_len: usize,
+        place: *mut u64, count: *mut u64,
+    ) -> u64;
+
+    pub fn rootmap_salvage(
+        buf: *mut u8, buf_len: usize, seen: *mut u8, seen_len: usize,
+        place: *mut u64, count: *mut u64,
+    ) -> u64;
+
     pub fn rootmap_view(
         file: *const u8, file_len: usize, start: *mut u64, start_len: usize,
         part: *mut u64, part_len: usize, owner: *mut u64, owner_len: usize,

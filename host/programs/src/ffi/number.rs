@@ -1,4 +1,4 @@
-//! The numbers that are answered: document 01's table.
+//! The numbers that are answered: document 01's table, and one of document 02.
 
 pub const SUCCESS: u64 = 0;
 pub const SHORT: u64 = 1;
@@ -27,3 +27,5 @@ pub const COUNT: u64 = 21;
 pub const TAG: u64 = 22;
 pub const REFERENCED: u64 = 23;
 pub const ROWS: u64 = 24;
+/// No gap covers what breaks the chain (document 02, request 10).
+pub const SALVAGE: u64 = 27;

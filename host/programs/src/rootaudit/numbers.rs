@@ -23,7 +23,7 @@ const fn row(number: u64, wrong: &'static str, place: &'static str, because: &'s
     Row { number, wrong, place, because, now }
 }
 
-pub const TABLE: [Row; 24] = [
+pub const TABLE: [Row; 25] = [
     row(number::SHORT, "the file is shorter than its header, 100 bytes", "0", "a copy never got going", AGAIN),
     row(number::MAGIC, "it does not begin with \"root\"", "0", "it is another file, or its first block is lost", LOOK),
     row(
@@ -105,4 +105,11 @@ pub const TABLE: [Row; 24] = [
     row(number::TAG, "a class is unknown, repeated or misplaced", "the tag", "", ""),
     row(number::REFERENCED, "an object is referenced", "the field", "", ""),
     row(number::ROWS, "the table has too few rows; count is how many are needed", "0", "", LEND),
+    row(
+        number::SALVAGE,
+        "no gap covers what breaks the chain: fewer than 4 bytes are left, or it would have more than 2,147,483,648",
+        "the fault",
+        "",
+        "",
+    ),
 ];

@@ -2,11 +2,11 @@
 
 use super::key::{be16, be32, offset, piece, string, width, Key, Piece};
 use super::key::{FIXED, LEAST_KEY, MOST_NARROW, MOST_VERSION, NARROW, WIDE};
-use crate::{number, part, Answer};
+use crate::{number, part, Answer, Mode};
 use std::cmp::Reverse;
 use std::collections::BinaryHeap;
 
-const BEGIN: usize = 100;
+pub(super) const BEGIN: usize = 100;
 /// Of a file with four-byte offsets: its greatest version, its greatest END, and where its last segment ends.
 const MOST_NARROW_FILE: u32 = 999_999;
 const MOST_END: u64 = 1_999_999_999;
@@ -22,9 +22,14 @@ mod is {
 
 /// Audits a file into the tables start, part and owner.
 pub fn audit(file: &[u8], tables: [&mut [u64]; 3]) -> Answer {
+    audit_in(Mode::Compared, file, tables)
+}
+
+/// Either audit.
+pub fn audit_in(mode: Mode, file: &[u8], tables: [&mut [u64]; 3]) -> Answer {
     let [start, part, owner] = tables;
     let room = start.len().min(part.len()).min(owner.len());
-    let found = pieces_of(file, [&mut start[..room], &mut part[..room], &mut owner[..room]]);
+    let found = pieces_of(mode, file, [&mut start[..room], &mut part[..room], &mut owner[..room]]);
     // Behind the rows of a pass, and everywhere on a refusal, there are zeros.
     let used = *found.as_ref().unwrap_or(&0);
     for table in [start, part, owner] {
@@ -37,9 +42,9 @@ pub fn audit(file: &[u8], tables: [&mut [u64]; 3]) -> Answer {
 }
 
 /// How many pieces there are, and their rows. The tables are of one length.
-fn pieces_of(file: &[u8], tables: [&mut [u64]; 3]) -> Result<usize, Answer> {
+fn pieces_of(mode: Mode, file: &[u8], tables: [&mut [u64]; 3]) -> Result<usize, Answer> {
     let header = header(file).map_err(|number| Answer::refusal(number, 0))?;
-    let mut audit = walk(file, tables)?;
+    let mut audit = walk(mode, file, tables)?;
     let head = audit.head(&header).ok_or(Answer::refusal(number::HEAD, BEGIN as u64))?;
     audit.free(&header).ok_or(Answer::refusal(number::FREE, header.seek_free))?;
     audit.info(&header).ok_or(Answer::refusal(number::INFO, header.seek_info))?;
@@ -49,7 +54,7 @@ fn pieces_of(file: &[u8], tables: [&mut [u64]; 3]) -> Result<usize, Answer> {
 }
 
 /// What the audit needs of a good file header.
-struct Header {
+pub(super) struct Header {
     /// The bytes of its offsets.
     width: usize,
     seek_free: u64,
@@ -61,7 +66,7 @@ struct Header {
 }
 
 /// The file header, or the number of the refusal.
-fn header(file: &[u8]) -> Result<Header, u64> {
+pub(super) fn header(file: &[u8]) -> Result<Header, u64> {
     let bytes = file.first_chunk::<BEGIN>().ok_or(number::SHORT)?;
     let w = if be32(bytes, 4) > MOST_NARROW_FILE { WIDE } else { NARROW };
     let offset = |at: usize| offset(bytes, at, w).ok_or(number::SHORT);
@@ -87,7 +92,7 @@ fn header(file: &[u8]) -> Result<Header, u64> {
 }
 
 /// Goes from piece to piece, once. What it finds stands in the tables, each record unlisted as yet.
-fn walk<'a>(file: &'a [u8], tables: [&'a mut [u64]; 3]) -> Result<Audit<'a>, Answer> {
+fn walk<'a>(mode: Mode, file: &'a [u8], tables: [&'a mut [u64]; 3]) -> Result<Audit<'a>, Answer> {
     let [start, part, owner] = tables;
     let room = start.len();
     let mut kept = Vec::with_capacity(room);
@@ -113,7 +118,7 @@ fn walk<'a>(file: &'a [u8], tables: [&'a mut [u64]; 3]) -> Result<Audit<'a>, Ans
     }
     let start = &start[..pieces];
     let low = (file.len() <= u32::MAX as usize).then(|| start.iter().map(|&start| start as u32).collect());
-    Ok(Audit { file, start, low, part, owner, kept, gaps, waiting: BinaryHeap::new(), next: 0 })
+    Ok(Audit { mode, file, start, low, part, owner, kept, gaps, waiting: BinaryHeap::new(), next: 0 })
 }
 
 #[inline]
@@ -147,6 +152,7 @@ fn directory(bytes: &[u8], place: u64, parent: u64, named: usize) -> Option<Dire
 }
 
 struct Audit<'a> {
+    mode: Mode,
     file: &'a [u8],
     start: &'a [u64],
     /// The low half of each start, where it tells all.
@@ -218,13 +224,15 @@ impl<'a> Audit<'a> {
     fn free(&mut self, header: &Header) -> Option<()> {
         let (row, bytes) = self.record(header.seek_free, is::PLAIN | is::UNPACKED | is::OF_FILE)?;
         let (keylen, record) = keylen_and_record(bytes)?;
-        if record.len() != header.nbytes_free as usize || header.nfree as usize != self.gaps.len() + 1 {
+        let others = header.nfree.checked_sub(1)? as usize;
+        let is_compared = self.mode == Mode::Compared;
+        if record.len() != header.nbytes_free as usize || is_compared && others != self.gaps.len() {
             return None;
         }
         let mut rest = &record[keylen..];
-        for gap in &self.gaps {
+        for nth in 0..others {
             let (found, after) = segment(rest, header.width)?;
-            if found != *gap {
+            if is_compared && found != self.gaps[nth] {
                 return None;
             }
             rest = after;

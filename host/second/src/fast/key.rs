@@ -135,18 +135,38 @@ pub enum Piece<'a> {
 /// The piece at `at`, or the number of the refusal.
 #[inline(always)]
 pub fn piece(file: &[u8], at: usize) -> Result<Piece<'_>, u64> {
-    let rest = file.get(at..).unwrap_or_default();
-    let n = i32::from_be_bytes(*rest.first_chunk().ok_or(number::CHAIN)?);
+    let (is_gap, bytes) = gap_or_record(file, at).ok_or(number::CHAIN)?;
+    if is_gap {
+        return Ok(Piece::Gap(bytes.len()));
+    }
+    let key = record_key(bytes, at).ok_or(number::KEY)?;
+    Ok(Piece::Record(bytes, key))
+}
+
+/// The size of the piece at `at`, if there is one.
+#[inline(always)]
+pub fn piece_size(file: &[u8], at: usize) -> Option<usize> {
+    let (is_gap, bytes) = gap_or_record(file, at)?;
+    (is_gap || is_record(bytes, at)).then_some(bytes.len())
+}
+
+/// Whether a gap or a record should stand at `at`, and its bytes, if it has a possible size.
+#[inline(always)]
+fn gap_or_record(file: &[u8], at: usize) -> Option<(bool, &[u8])> {
+    let rest = file.get(at..)?;
+    let n = i32::from_be_bytes(*rest.first_chunk()?);
     let size = n.unsigned_abs() as usize;
-    if size < LEAST_PIECE || size > rest.len() {
-        return Err(number::CHAIN);
-    }
-    if n < 0 {
-        return Ok(Piece::Gap(size));
-    }
-    let record = &rest[..size];
-    match Key::read(record) {
-        Some(key) if key.seek_key == at as u64 => Ok(Piece::Record(record, key)),
-        _ => Err(number::KEY),
-    }
+    let bytes = rest.get(..size)?;
+    (size >= LEAST_PIECE).then_some((n < 0, bytes))
+}
+
+/// The key of the record at `at`, if it is one.
+#[inline(always)]
+fn record_key(record: &[u8], at: usize) -> Option<Key<'_>> {
+    Key::read(record).filter(|key| key.seek_key == at as u64)
+}
+
+#[inline(never)]
+fn is_record(record: &[u8], at: usize) -> bool {
+    record_key(record, at).is_some()
 }

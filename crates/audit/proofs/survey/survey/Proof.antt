@@ -18,7 +18,7 @@ held c = sym (c .enum-told .given .1) ∙ c .before .before .read-head .ensures 
 
 free : (c : tie.Else1) →
     let a = c .before .before .before .before .before .before .before .before .before .args in
-    freeHolds (now (a .file)) (now (a .start)) (a .head) ≡ true
+    freeHolds (a .compare) (now (a .file)) (now (a .start)) (a .head) ≡ true
 free c =
     let c9 = c .before .before .before .before .before .before .before .before .before in
     passed _ _ (c .before .check-free .ensures (c9 .pre .rising)) (c .if1 .left)
@@ -31,20 +31,20 @@ info c =
     passed _ _ (c .before .check-info .ensures (c11 .pre .rising)) (c .if2 .left)
 
 returns : tie.Need-returns
-returns c = no-head _ _ _ _ _ (sym (c .enum-told2 .given .1) ∙ c .before .before .read-head .ensures .is)
+returns c = no-head _ _ _ _ _ _ (sym (c .enum-told2 .given .1) ∙ c .before .before .read-head .ensures .is)
 
 returns-2 : tie.Need-returns-2
 returns-2 c =
     let c2 = c .before .before in
     let c9 = c2 .before .before .before .before .before .before .before in
-    no-free _ _ _ _ _ (held c2) (c .before .check-free .ensures (c9 .pre .rising)) (c .if1 .taken)
+    no-free _ _ _ _ _ _ (held c2) (c .before .check-free .ensures (c9 .pre .rising)) (c .if1 .taken)
 
 returns-3 : tie.Need-returns-3
 returns-3 c =
     let c2 = c .before .before in
     let c4 = c2 .before .before in
     let c11 = c4 .before .before .before .before .before .before .before in
-    no-info _ _ _ _ _ (held c4) (free c2) (c .before .check-info .ensures (c11 .pre .rising)) (c .if2 .taken)
+    no-info _ _ _ _ _ _ (held c4) (free c2) (c .before .check-info .ensures (c11 .pre .rising)) (c .if2 .taken)
 
 first-parts-requires : tie.Need-first-parts-requires
 first-parts-requires c κs =
@@ -69,7 +69,7 @@ returns-4 c =
     let c17 = c15 .before .before in
     let c19 = c17 .before .before in
     let b = c19 .before .before .before .before .before .before .before in
-    go-on _ _ _ _ _ (held c19) (free c17) _ _ _ (info c15) (c9 .first-parts .ensures .0)
+    go-on _ _ _ _ _ _ (held c19) (free c17) _ _ _ (info c15) (c9 .first-parts .ensures .0)
     (all-zeros _ (now (b .args .owner)) (b .pre .owners) (c13 .clear .ensures)) (c4 .list-dirs .ensures)
 
 pub survey-spec : {M : Type 1} → statement M

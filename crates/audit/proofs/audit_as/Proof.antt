@@ -1,7 +1,7 @@
 use Rattle.audit.proofs.Verdicts.{unlimited}
 use borrow.Author.Needs.{needs}
-use Rattle.audit.proofs.audit.Statement.{statement}
-use Rattle.audit.proofs.audit.Tie as tie
+use Rattle.audit.proofs.audit_as.Statement.{statement}
+use Rattle.audit.proofs.audit_as.Tie as tie
 
 returns : tie.Need-returns
 returns c =
@@ -16,5 +16,5 @@ returns c =
       demand = k .demand;
     }
 
-pub audit-spec : {M : Type 1} → statement M
-audit-spec = tie.close (tie.spec (search needs) (search needs) (search needs) (search needs) returns)
+pub audit-as-spec : {M : Type 1} → statement M
+audit-as-spec = tie.close (tie.spec (search needs) (search needs) (search needs) (search needs) returns)

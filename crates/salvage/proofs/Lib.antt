@@ -1,0 +1,4 @@
+pub mod Damages
+pub mod Gaps
+pub mod Marks
+pub mod Reaches
