@@ -9,7 +9,7 @@ use native.Mathlib.Numerals.{add-one}
 use native.Mathlib.Omega.{arith}
 use borrow.Author.Tests.{eq-eqb, ne_eqb}
 use lib.Dec.{eqb}
-use lib.ListN.{length, take, set, get_or, length_map, length-set, drop_of_length-le, get_or-eq_default}
+use lib.ListN.{length, take, set, get_or, length-map, length-set, drop_of_length-le, get_or-eq_default}
 use lib.Seq.{take-suc, take_all, length-take-le, get_or-set_same, get_or-set_other, ext_get_or}
 use Rattle.wire.specs.Check.{pick}
 use Rattle.wire.specs.Patch.{patch}
@@ -45,7 +45,7 @@ map_more f (x ∷ xs) a = rw (map_more f xs a)
 
 module _ {s start t u : List ℕ} {h : FileHead} {i : ℕ} (m : Parting s start t u h i) where
   given : length (rest_parts s h (take i start)) ≡ i
-  given = rw (length_map (take i start) (rest_part s h), length-take-le i start m.within)
+  given = rw (length-map (take i start) (rest_part s h), length-take-le i start m.within)
 
   pub parts_kept : length u ≡ length t
   parts_kept = ap length m.table ∙ length_patch t 0 (rest_parts s h (take i start)) (omega (arith, given, m.within, m.same))
@@ -64,7 +64,7 @@ module _ {s start t u : List ℕ} {h : FileHead} {i : ℕ} (m : Parting s start 
   unfolding patch
   parts_ended l =
       m.table
-      ∙ rw (take_all i start l, zero-add, length_map start (rest_part s h), drop_of_length-le t {i = length start} (omega (arith, m.same)), append-nil)
+      ∙ rw (take_all i start l, zero-add, length-map start (rest_part s h), drop_of_length-le t {i = length start} (omega (arith, m.same)), append-nil)
 
 -- only the head has the mark
 either : (b : Bool) {x y : ℕ} → x < 8 → y < 8 → pick b x y < 8
@@ -97,7 +97,7 @@ module _ (s : List ℕ) (h : FileHead) (qs : List ℕ) where
   rest_at i l = map_at (rest_part s h) qs i l
 
   size : length (rest_parts s h qs) ≡ length qs
-  size = length_map qs (rest_part s h)
+  size = length-map qs (rest_part s h)
 
   rest_below : (i : ℕ) → get_or (rest_parts s h qs) i 0 < 8
   rest_below i =
@@ -116,7 +116,7 @@ module _ (s : List ℕ) (h : FileHead) (qs : List ℕ) where
       → w.row ≡ length p → w.place ≡ 0 → w.number ≡ 0 → (parts_in p ≡ first_parts s h qs) × Keeps qs p w
   none_found z {p} {w} e f g n =
       let b = f ∙ ap length e in
-      rw e (alone ∙ ext_get_or 0 (rest_parts s h qs) (first_parts s h qs) (size ∙ sym (length_map qs (first_part s h))) same, kept_none b g n)
+      rw e (alone ∙ ext_get_or 0 (rest_parts s h qs) (first_parts s h qs) (size ∙ sym (length-map qs (first_part s h))) same, kept_none b g n)
     where
       same : (i : ℕ) → i < length (rest_parts s h qs) → get_or (rest_parts s h qs) i 0 ≡ get_or (first_parts s h qs) i 0
       same i l =
@@ -134,7 +134,7 @@ module _ (s : List ℕ) (h : FileHead) (qs : List ℕ) where
     with_mark : set (rest_parts s h qs) row 9 ≡ first_parts s h qs
     with_mark =
         ext_get_or 0 (set (rest_parts s h qs) row 9) (first_parts s h qs)
-        (length-set (rest_parts s h qs) row 9 ∙ size ∙ sym (length_map qs (first_part s h))) same
+        (length-set (rest_parts s h qs) row 9 ∙ size ∙ sym (length-map qs (first_part s h))) same
       where
         same : (i : ℕ) → i < length (set (rest_parts s h qs) row 9) → get_or (set (rest_parts s h qs) row 9) i 0 ≡ get_or (first_parts s h qs) i 0
         same i k =

@@ -1,5 +1,5 @@
 -- The verdict, case by case, and the tables with it.
-use Prim.Native.Nat.{ℕ, ◌+◌, ◌<◌, ◌≤◌}
+use Prim.Native.Nat.{zero, suc, ℕ, ◌+◌, ◌<◌, ◌≤◌}
 use mathlib.Core.List.{List, ◌++◌}
 use mathlib.Core.Path.{◌≡◌, refl, sym, ap, ◌∙◌, subst}
 use native.Mathlib.Omega.{arith}
@@ -9,7 +9,7 @@ use lib.Dec.{leb}
 use lib.Seq.{take_at, length-take-le}
 use Rattle.wire.specs.Check.{pick}
 use Rattle.wire.specs.Answer.{done, refusal}
-use Rattle.wire.specs.Lent.{Lent, before, after}
+use Rattle.wire.specs.Lent.{Lent, MutLent, held, before, after}
 use Rattle.wire.specs.declared.Answer.{Answer}
 use Rattle.wire.proofs.Numbers.{lesser_within, lesser_second}
 use Rattle.key.specs.Piece.{piece_at}
@@ -201,11 +201,20 @@ module _ {v : Verdict} {a : Answer} {t u w : List ℕ} (x : Examined v a t u w) 
   pub rows_none : {n : ℕ} → (a.number ≡ 0 → ⊥) → n ≡ 0 → Rows v n t u w
   rows_none z e = record { count = e ∙ no_rows v (λ i. z (x.0.number ∙ i)); filled = x.1 }
 
+-- both at once
+pub rows_either : {v : Verdict} {a : Answer} {t u w : List ℕ} → Examined v a t u w → {n : ℕ} → (a.number ≡ 0 → n ≡ a.count)
+    → ((a.number ≡ 0 → ⊥) → n ≡ 0) → Rows v n t u w
+rows_either {v} {a} {t} {u} {w} x {n} f g = go a.number refl
+  where
+    go : (m : ℕ) → a.number ≡ m → Rows v n t u w
+    go zero e = rows_some x e (f e)
+    go (suc k) e = let z : a.number ≡ 0 → ⊥ = λ (i : a.number ≡ 0). omega arith in rows_none x z (g z)
+
 begins_table : (xs t r u : List ℕ) {n : ℕ} → Begins xs t → n ≡ length xs → length t ≡ length r → u ≡ cleared t n → u ≡ filled xs (length r)
 begins_table xs t r u b e l f = f ∙ rw (e, b, l)
 
 -- once the rest of each table is cleared
-pub audited : (mode : Mode) (m : ℕ) (file start part owner : Lent) (a : Answer) {n : ℕ} (t u w : List ℕ) → Answers (told_within mode m file start part owner) a
+pub audited : (mode : Mode) (m : ℕ) (file : Lent) (start part owner : MutLent) (a : Answer) {n : ℕ} (t u w : List ℕ) → Answers (told_within mode m file start part owner) a
     → Rows (told_within mode m file start part owner) n t u w → length t ≡ length (before start) → length u ≡ length (before part)
     → length w ≡ length (before owner) → after start ≡ cleared t n → after part ≡ cleared u n → after owner ≡ cleared w n
     → AuditsWithin mode m file start part owner a
@@ -216,14 +225,14 @@ audited mode m file start part owner a t u w x y i j k d e f = record {
   starts = begins_table (starts_of v) t (before start) (after start) y.filled.starts y.count i d;
   parts = begins_table (parts_of v) u (before part) (after part) y.filled.parts (y.count ∙ sym y.filled.each_part) j e;
   owners = begins_table (owners_of v) w (before owner) (after owner) y.filled.owners (y.count ∙ sym y.filled.each_owner) k f;
-  demand = demand mode (before file) (room_in m (before start) (before part) (before owner));
+  demand = demand mode (held file) (room_in m (before start) (before part) (before owner));
 }
   where
     v : Verdict
     v = told_within mode m file start part owner
 
 -- the first table's length is no limit beside the tables
-pub unlimited : {mode : Mode} {file start part owner : Lent} {a : Answer} → AuditsWithin mode (length (before start)) file start part owner a
+pub unlimited : {mode : Mode} {file : Lent} {start part owner : MutLent} {a : Answer} → AuditsWithin mode (length (before start)) file start part owner a
     → AuditsIn mode (room file start part owner) file start part owner a
 unlimited {mode} {file} {start} {part} {owner} {a} k =
     let v = before part in

@@ -1,7 +1,7 @@
 -- Only private functions and proofs use these: the answer, and the tables before they are cleared.
 use Rattle.std.specs.Prelude.{ℕ, List, ◌≡◌, length, take}
 use Rattle.wire.specs.declared.Answer.{Answer}
-use Rattle.wire.specs.Lent.{Lent, after}
+use Rattle.wire.specs.Lent.{Lent, MutLent, after}
 use Rattle.rules.specs.Free.{Mode}
 use Rattle.rules.specs.Order.{Verdict, number_of, place_of, count_of, starts_of, parts_of, owners_of}
 use Rattle.audit.specs.Tables.{told_within}
@@ -26,6 +26,6 @@ pub record Filled (v : Verdict) (start part owner : List ℕ) : Type 0 where
   pub each_owner : length (owners_of v) ≡ length (starts_of v)
   pub counted : number_of v ≡ 0 → count_of v ≡ length (starts_of v)
 
-abbrev pub Examines : Mode → ℕ → Lent → Lent → Lent → Lent → Answer → Type 0
+abbrev pub Examines : Mode → ℕ → Lent → MutLent → MutLent → MutLent → Answer → Type 0
 Examines mode limit file start part owner r =
     let v = told_within mode limit file start part owner in Answers v r × Filled v (after start) (after part) (after owner)

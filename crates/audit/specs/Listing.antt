@@ -1,7 +1,7 @@
 -- Only private functions and proofs use these: what a step over the directories answers, and what the tables of parts and owners
 -- hold then.
 use Rattle.std.specs.Prelude.{ℕ, ◌+◌, ◌%◌, ◌<◌, ◌≤◌, Bool, true, List, map, ◌≡◌, eqb, length, get_or, set, replicate}
-use Rattle.wire.specs.Lent.{Lent, before, after}
+use Rattle.wire.specs.Lent.{Lent, MutLent, held, before, after}
 use Rattle.fileheader.specs.declared.FileHead.{FileHead}
 use Rattle.rows.specs.Row.{Rises}
 use Rattle.rules.specs.Part.{dir, unlisted}
@@ -52,8 +52,8 @@ Told qs p (Fault n q) = Unit
 abbrev pub Went : List ℕ → Turn → Listed → List ℕ → List ℕ → Type 0
 Went qs x r p vs = Ran x r (parts_in p) vs × Told qs p r
 
-abbrev pub Runs : Step → Lent → Lent → Lent → Listed → Type 0
-Runs step start part owner r = Went (before start) (step (parts_in (before part)) (before owner)) r (after part) (after owner)
+abbrev pub Runs : Step → Lent → MutLent → MutLent → Listed → Type 0
+Runs step start part owner r = Went (held start) (step (parts_in (before part)) (before owner)) r (after part) (after owner)
 
 -- a record that is unlisted so far is given part and owner, the mark apart; and then the mark, where it is a directory
 pub record Assigns (p os us vs : List ℕ) (g : Claim) (r : Bool) : Type 0 where
@@ -75,5 +75,5 @@ abbrev pub data_step : List ℕ → List ℕ → Span → ℕ → Step
 data_step s qs l a ps os = data_turn s qs l.dir l.seek a l.end ps os (a + 4)
 
 -- all directories
-abbrev pub rounds_from : List ℕ → FileHead → List ℕ → Lent → Lent → Turn
+abbrev pub rounds_from : List ℕ → FileHead → List ℕ → MutLent → MutLent → Turn
 rounds_from s h qs part owner = rounds s h qs (length qs) (parts_in (before part)) (before owner) 0

@@ -1,7 +1,7 @@
 -- What the audit promises: document 01, "Numbers given back".
 use Rattle.std.specs.Prelude.{ℕ, List, ◌≡◌, length}
 use Rattle.wire.specs.declared.Answer.{Answer}
-use Rattle.wire.specs.Lent.{Lent, before, after}
+use Rattle.wire.specs.Lent.{Lent, MutLent, held, before, after}
 use Rattle.wire.specs.Number.{lesser}
 use Rattle.table.specs.Table.{filled}
 use Rattle.rules.specs.Demand.{Demand}
@@ -19,9 +19,9 @@ room_in limit start part owner = lesser limit (room_of start part owner)
 -- what an audit promises with this room
 module _ (mode : Mode) (room : ℕ) (file : Lent) where
   abbrev pub told_in : Verdict
-  told_in = verdict mode (before file) room
+  told_in = verdict mode (held file) room
 
-  module _ (start part owner : Lent) where
+  module _ (start part owner : MutLent) where
     pub record AuditsIn (r : Answer) : Type 0 where
       -- number, place and count are the verdict's
       pub number : r.number ≡ number_of told_in
@@ -32,9 +32,9 @@ module _ (mode : Mode) (room : ℕ) (file : Lent) where
       pub parts : after part ≡ filled (parts_of told_in) (length (before part))
       pub owners : after owner ≡ filled (owners_of told_in) (length (before owner))
       -- and the verdict means what the third demand says
-      pub demand : Demand mode (before file) room
+      pub demand : Demand mode (held file) room
 
-module _ (file start part owner : Lent) where
+module _ (file : Lent) (start part owner : MutLent) where
   abbrev pub room : ℕ
   room = room_of (before start) (before part) (before owner)
 
@@ -53,7 +53,7 @@ module _ (file start part owner : Lent) where
   AuditsSalvaged = AuditsFor apart
 
 -- either audit with a limit beside the tables
-module _ (mode : Mode) (limit : ℕ) (file start part owner : Lent) where
+module _ (mode : Mode) (limit : ℕ) (file : Lent) (start part owner : MutLent) where
   abbrev pub room_within : ℕ
   room_within = room_in limit (before start) (before part) (before owner)
 

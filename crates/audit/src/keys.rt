@@ -1,6 +1,5 @@
 // A directory's keys list: the list and the record of each copy are given their part and owner.
 ghost use Rattle.std.specs.Prelude.{◌≡◌, ◌≤◌, ◌<◌, length};
-ghost use Rattle.wire.specs.Lent.{before, after};
 ghost use Rattle.rules.specs.Turn.{keys_turn};
 ghost use Rattle.audit.specs.Listing.{Assigns, Marks, Runs, Tables, copies_step, data_step};
 
@@ -10,7 +9,7 @@ use waiting::{Waiting, found, give};
 use wire::number::be32;
 
 // The next place of a list, and what is kept of the directories found and not done; or the first refusal.
-#[derive(Drop)]
+#[derive(Clone, Copy)]
 pub enum Listed {
     Next(usize, Waiting),
     Fault(u32, usize),
@@ -19,7 +18,7 @@ pub enum Listed {
 // Gives a record its part and owner, where it has none, and tells whether it had none. A directory gets its mark after it.
 fn assign_part(part: &mut [u64], owner: &mut [u64], g: Claim) -> bool
     requires { (g.row < length part.old) × (length owner.old ≡ length part.old) }
-    ensures { Assigns (before part) (before owner) (after part) (after owner) g result }
+    ensures { Assigns part.old owner.old part.new owner.new g result }
 {
     let row = g.row;
     if part[row] % 16 != 7 {
@@ -32,7 +31,7 @@ fn assign_part(part: &mut [u64], owner: &mut [u64], g: Claim) -> bool
 
 // The mark of a directory whose part and owner were given.
 fn mark_dir(start: &[u64], part: &mut [u64], g: Claim, w: Waiting) -> Waiting
-    ensures { Marks (before start) (before part) (after part) g w result }
+    ensures { Marks start.now part.old part.new g w result }
 {
     if g.part < 8 {
         return w;
@@ -52,7 +51,7 @@ fn list_copies(
     w: Waiting,
 ) -> Listed
     requires { Tables start.now part.old owner.old w }
-    ensures { Runs (copies_step (before file) (before start) list count from) start part owner result }
+    ensures { Runs (copies_step file.now start.now list count from) start part owner result }
 {
     let mut at = from;
     let mut left = count;
@@ -87,7 +86,7 @@ fn list_data(
     w: Waiting,
 ) -> Listed
     requires { Tables start.now part.old owner.old w × (from ≤ list.end) × (list.end ≤ length file.now) }
-    ensures { Runs (data_step (before file) (before start) list from) start part owner result }
+    ensures { Runs (data_step file.now start.now list from) start part owner result }
 {
     if list.end - from < 4 {
         return Listed::Fault(12, list.seek as usize);
@@ -114,7 +113,7 @@ pub(crate) fn list_keys(
     w: Waiting,
 ) -> Listed
     requires { Tables start.now part.old owner.old w }
-    ensures { Runs (keys_turn (before file) (before start) dir head) start part owner result }
+    ensures { Runs (keys_turn file.now start.now dir head) start part owner result }
 {
     match find_list(file, start, dir, head) {
         Keys::Nothing => Listed::Next(0, w),

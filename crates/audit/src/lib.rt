@@ -1,4 +1,6 @@
 // The audit of a whole file.
+#![tactic(auto)]
+
 ghost use Rattle.audit.specs.Examined.{Examines};
 ghost use Rattle.audit.specs.Tables.{Audits, AuditsSalvaged, AuditsFor, AuditsWithin};
 

@@ -1,6 +1,5 @@
 // The directories, lowest place first among those found and not done.
 ghost use Rattle.std.specs.Prelude.{◌≡◌, ◌<◌, length};
-ghost use Rattle.wire.specs.Lent.{before, after};
 ghost use Rattle.directory.specs.Dir.{dir_of};
 ghost use Rattle.rules.specs.Turn.{dir_turn, round_turn};
 ghost use Rattle.audit.specs.Listing.{Runs, Ran, Tables, rounds_from};
@@ -12,7 +11,7 @@ use waiting::{Waiting, settle};
 
 // The header of the directory at a place.
 fn read_dir(file: &[u8], head: FileHead, place: u64, parent: u64) -> Dir
-    ensures { result ≡ dir_of (before file) head place parent }
+    ensures { result ≡ dir_of file.now head place parent }
 {
     if place == 100 {
         return read_head(file, head.nbytesname);
@@ -30,7 +29,7 @@ fn list_dir(
     w: Waiting,
 ) -> Listed
     requires { Tables start.now part.old owner.old w × (w.row < length start.now) }
-    ensures { Runs (dir_turn (before file) head (before start) w.row) start part owner result }
+    ensures { Runs (dir_turn file.now head start.now w.row) start part owner result }
 {
     let row = w.row;
     let dir = w.place;
@@ -50,7 +49,7 @@ fn take_dir(
     w: Waiting,
 ) -> Listed
     requires { Tables start.now part.old owner.old w × (0 < w.number) }
-    ensures { Runs (round_turn (before file) head (before start) w.row) start part owner result }
+    ensures { Runs (round_turn file.now head start.now w.row) start part owner result }
 {
     let r = list_dir(file, start, part, owner, head, w);
     let Listed::Next(at, more) = r else {
@@ -69,7 +68,7 @@ pub(crate) fn list_dirs(
     w: Waiting,
 ) -> Listed
     requires { Tables start.now part.old owner.old w }
-    ensures { Ran (rounds_from (before file) head (before start) part owner) result (after part) (after owner) }
+    ensures { Ran (rounds_from file.now head start.now part owner) result part.new owner.new }
 {
     let mut at: usize = 0;
     let mut kept = w;

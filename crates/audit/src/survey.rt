@@ -1,6 +1,5 @@
 // The rules in their order, over three tables of one length.
 ghost use Rattle.std.specs.Prelude.{◌≡◌, length};
-ghost use Rattle.wire.specs.Lent.{before, after};
 ghost use Rattle.rules.specs.Turn.{first_parts};
 ghost use Rattle.rules.specs.Order.{ruled};
 ghost use Rattle.waiting.specs.Waiting.{parts_in, Keeps};
@@ -20,7 +19,7 @@ use waiting::{Waiting, found};
 // The first parts, before the head is found.
 fn fill_parts(file: &[u8], start: &[u64], part: &mut [u64], head: FileHead)
     requires { length part.old ≡ length start.now }
-    ensures { after part ≡ rest_parts (before file) head (before start) }
+    ensures { part.new ≡ rest_parts file.now head start.now }
 {
     let mut i: usize = 0;
     while i < start.len() {
@@ -32,7 +31,7 @@ fn fill_parts(file: &[u8], start: &[u64], part: &mut [u64], head: FileHead)
 // The parts before the first directory is taken: the head is found.
 fn first_parts(file: &[u8], start: &[u64], part: &mut [u64], head: FileHead) -> Waiting
     requires { Rises start.now × (length part.old ≡ length start.now) }
-    ensures { (parts_in (after part) ≡ first_parts (before file) head (before start)) × Keeps (before start) (after part) result }
+    ensures { (parts_in part.new ≡ first_parts file.now head start.now) × Keeps start.now part.new result }
 {
     fill_parts(file, start, part, head);
     let none = Waiting {
@@ -56,7 +55,7 @@ pub(crate) fn survey(
     compare: bool,
 ) -> Listed
     requires { Sized start.now part.old owner.old }
-    ensures { Ran (ruled compare (before file) head (before start)) result (after part) (after owner) }
+    ensures { Ran (ruled compare file.now head start.now) result part.new owner.new }
 {
     let Dir::Held(_) = read_head(file, head.nbytesname) else {
         return Listed::Fault(8, 100);

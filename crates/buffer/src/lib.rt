@@ -1,12 +1,13 @@
 // Lent buffers: bytes and numbers, stored at the front of a part. Every public function takes any input and has no precondition.
+#![tactic(auto)]
+
 ghost use Rattle.std.specs.Prelude.{◌≡◌};
-ghost use Rattle.wire.specs.Lent.{before, after};
 ghost use Rattle.wire.specs.Number.{be_bytes};
 ghost use Rattle.buffer.specs.Store.{put_front};
 
 // Copies bytes to the front of a part; where it is shorter than they are it stays as it was.
 pub fn copy(part: &mut [u8], from: &[u8])
-    ensures { after part ≡ put_front (before part) (before from) }
+    ensures { part.new ≡ put_front part.old from.now }
 {
     if part.len() < from.len() {
         return;
@@ -20,7 +21,7 @@ pub fn copy(part: &mut [u8], from: &[u8])
 
 // Writes a number as four bytes at the front of a part; where it has fewer it stays as it was.
 pub fn put32(part: &mut [u8], v: u32)
-    ensures { after part ≡ put_front (before part) (be_bytes 4 v) }
+    ensures { part.new ≡ put_front part.old (be_bytes 4 v) }
 {
     if part.len() < 4 {
         return;

@@ -1,6 +1,6 @@
 -- What the C functions hand back.
 use Rattle.std.specs.Prelude.{ℕ, List, [], ◌∷◌, ◌≡◌, replicate, ℤ}
-use Rattle.std.specs.Borrow.{Bor}
+use Rattle.std.specs.Borrow.{MutBor}
 use denote.Triple.Both.{Both}
 use Rattle.wire.specs.Answer.{done}
 use Rattle.wire.specs.Number.{bits16}
@@ -18,7 +18,7 @@ use Rattle.key.specs.declared.piece.Piece.TheVariants.{Record, Gap, Refused}
 
 -- a number behind a pointer, at the call and at the return
 abbrev pub Cell : Type 0
-Cell = Both (Bor ℕ) (Bor ℕ)
+Cell = Both (MutBor ℕ) (MutBor ℕ)
 
 -- an answer as C gets it: the number returned, and what stands behind the two pointers at the return
 abbrev pub told : ℕ → Cell → Cell → Answer

@@ -1,7 +1,8 @@
 // The C interface: thin functions over the proved crates, with the same promises. A slice is passed as a
 // pointer and a length. The number is returned; place and count are written in every case.
+#![tactic(auto)]
+
 ghost use Rattle.std.specs.Prelude.{◌≡◌};
-ghost use Rattle.wire.specs.Lent.{before, after};
 ghost use Rattle.version.specs.Version.{library_version};
 ghost use Rattle.date.specs.Date.{Packs};
 ghost use Rattle.key.specs.Writer.{Writes};
@@ -110,7 +111,7 @@ pub extern "C" fn rootmap_read_piece(
     place: &mut u64,
     count: &mut u64,
 ) -> u64
-    ensures { Shows (before file) at fields.new (told result place count) }
+    ensures { Shows file.now at fields.new (told result place count) }
 {
     match key::piece::read_piece(file, at as usize) {
         Piece::Record(k) => {
@@ -152,7 +153,7 @@ pub extern "C" fn rootmap_write_key(
     count: &mut u64,
 ) -> u64
     ensures { Writes (fields_of nbytes version objlen datime cycle seek_key seek_pdir)
-        (before class_name) (before name) (before title) (before buf) (after buf) (told result place count) }
+        class_name.now name.now title.now buf.old buf.new (told result place count) }
 {
     let f = Fields {
         nbytes,
@@ -308,7 +309,7 @@ pub extern "C" fn rootmap_card_read(
     place: &mut u64,
     count: &mut u64,
 ) -> u64
-    ensures { ReadsCard (before card) (before out) (after out) (told result place count) }
+    ensures { ReadsCard card.now out.old out.new (told result place count) }
 {
     let read = card::read_card(card, out);
     *place = read.place;

@@ -1,6 +1,6 @@
 -- A card that is read: whether it is closed, and its file, copied block by block.
 use Prim.Native.Nat.{ℕ, suc, ◌+◌, ◌-◌, ◌*◌, ◌<◌, ◌≤◌}
-use mathlib.Core.Bool.{Bool, false, and_true}
+use mathlib.Core.Bool.{Bool, false, and-true}
 use mathlib.Core.List.{List, ◌++◌}
 use mathlib.Core.Logic.{⊎_elim}
 use mathlib.Core.Path.{◌≡◌, refl, sym, ap, ◌∙◌}
@@ -45,7 +45,7 @@ module _ (c : List ℕ) {e : ℕ} (i : e ≡ end_of c) (t : fault_from c (needed
       let p : padding_of c ≡ take (n * 512 - 4 - (e + n * 8 - 4)) (drop (e + n * 8 - 4) c)
       = padding_there c t (count_is j) (ap (λ (k : ℕ). k + n * 8 - 4) i) refl in
       sym
-      (rw (le-leb 100 (end_of c) (omega arith), eq-eqb (length c) (needed c * 512) (omega (arith, count_is j)), and_true, p) (sym z))
+      (rw (le-leb 100 (end_of c) (omega arith), eq-eqb (length c) (needed c * 512) (omega (arith, count_is j)), and-true, p) (sym z))
 
 -- the first bytes of a front
 take_lesser : (m r : ℕ) (l : List ℕ) → take (lesser m r) l ≡ take r (take m l)

@@ -1,8 +1,9 @@
 // The transfer card: a file in blocks of 512 bytes, each with its number, 504 bytes of the file and a check. Here it is read. Every public
 // function takes any input and has no precondition.
+#![tactic(auto)]
+
 ghost use Rattle.std.specs.Prelude.{◌≡◌, ◌*◌, ◌≤◌, length, take};
 ghost use Rattle.wire.specs.Check.{all};
-ghost use Rattle.wire.specs.Lent.{before, after};
 ghost use Rattle.wire.specs.Parts.{parts};
 ghost use Rattle.wire.specs.Patch.{patch};
 ghost use Rattle.card.specs.Card.{blocks_for};
@@ -27,7 +28,7 @@ pub fn blocks_for(n: usize) -> usize
 
 // The first fault of the block i: 28 if it is not whole, 29 for a wrong number, 30 for a wrong check, else 0.
 fn block_fault(i: usize, block: &[u8]) -> u32
-    ensures { result ≡ block_fault i (before block) }
+    ensures { result ≡ block_fault i block.now }
 {
     if block.len() != 512 {
         return 28;
@@ -43,7 +44,7 @@ fn block_fault(i: usize, block: &[u8]) -> u32
 
 // The first fault of the first n blocks of a card, or 0.
 fn first_fault(card: &[u8], n: usize) -> u32
-    ensures { result ≡ fault_from (before card) n 0 }
+    ensures { result ≡ fault_from card.now n 0 }
 {
     let mut number: usize = 0;
     let mut from: usize = 0;
@@ -64,7 +65,7 @@ fn first_fault(card: &[u8], n: usize) -> u32
 
 // Whether every byte is 0.
 fn all_zero(s: &[u8]) -> bool
-    ensures { result ≡ zeros (before s) }
+    ensures { result ≡ zeros s.now }
 {
     let mut at: usize = 0;
     while at < s.len() {
@@ -79,7 +80,7 @@ fn all_zero(s: &[u8]) -> bool
 // Whether a card without a faulty block has an END from 100 on, no byte after its last block, and only zeros as padding.
 fn is_closed(card: &[u8], end: usize) -> bool
     requires { (end ≡ end_of card.now) × (fault_from card.now (needed card.now) 0 ≡ 0) }
-    ensures { result ≡ all (closed (before card)) }
+    ensures { result ≡ all (closed card.now) }
 {
     if end < 100 {
         return false;
@@ -97,7 +98,7 @@ fn is_closed(card: &[u8], end: usize) -> bool
 // Copies the first bytes of the data of a card's blocks to the front of an output.
 fn copy_file(card: &[u8], end: usize, out: &mut [u8])
     requires { (blocks_for end * 512 ≤ length card.now) × (end ≤ length out.old) }
-    ensures { after out ≡ patch (before out) 0 (take end (parts (data_at (before card)) (blocks_for end))) }
+    ensures { out.new ≡ patch out.old 0 (take end (parts (data_at card.now) (blocks_for end))) }
 {
     let n = blocks_for(end);
     let mut i: usize = 0;
@@ -116,7 +117,7 @@ fn copy_file(card: &[u8], end: usize, out: &mut [u8])
 // check; then 31 for nonzero padding, bytes after the last block or an END below 100; then 17 if the output is too short. The file is not
 // audited.
 pub fn read_card(card: &[u8], out: &mut [u8]) -> Answer
-    ensures { ReadsCard (before card) (before out) (after out) result }
+    ensures { ReadsCard card.now out.old out.new result }
 {
     if card.len() < 512 {
         return refused(28, 0);

@@ -1,6 +1,7 @@
 // The card of a file, written without an audit. The public function takes any input and has no precondition.
+#![tactic(auto)]
+
 ghost use Rattle.std.specs.Prelude.{◌≡◌, ◌++◌, ◌*◌, ◌≤◌, ◌^◌, length};
-ghost use Rattle.wire.specs.Lent.{before, after};
 ghost use Rattle.wire.specs.Number.{be_bytes};
 ghost use Rattle.wire.specs.Parts.{parts};
 ghost use Rattle.wire.specs.Patch.{patch};
@@ -18,7 +19,7 @@ use wire::{Answer, finished, refused};
 // Writes number and data of a block at the front of a part, with zeros as padding.
 fn put_body(part: &mut [u8], i: u32, bytes: &[u8])
     requires { (508 ≤ length part.old) × (length bytes.now ≤ 504) }
-    ensures { after part ≡ patch (before part) 0 (be_bytes 4 i ++ filled (before bytes) 504) }
+    ensures { part.new ≡ patch part.old 0 (be_bytes 4 i ++ filled bytes.now 504) }
 {
     put32(&mut *part, i);
     copy(&mut part[4..], bytes);
@@ -29,7 +30,7 @@ fn put_body(part: &mut [u8], i: u32, bytes: &[u8])
 // Writes a block at the front of a part.
 fn put_block(part: &mut [u8], i: u32, bytes: &[u8])
     requires { (512 ≤ length part.old) × (length bytes.now ≤ 504) }
-    ensures { after part ≡ patch (before part) 0 (block_with i (filled (before bytes) 504)) }
+    ensures { part.new ≡ patch part.old 0 (block_with i (filled bytes.now 504)) }
 {
     put_body(&mut *part, i, bytes);
     let sum = check(&part[0..508]);
@@ -39,7 +40,7 @@ fn put_block(part: &mut [u8], i: u32, bytes: &[u8])
 // Writes the n blocks of a file at the front of an output.
 fn put_card(file: &[u8], n: usize, card: &mut [u8])
     requires { (n ≡ blocks_for (length file.now)) × (n ≤ 2 ^ 32) × (n * 512 ≤ length card.old) }
-    ensures { after card ≡ patch (before card) 0 (parts (block_of (before file)) n) }
+    ensures { card.new ≡ patch card.old 0 (parts (block_of file.now) n) }
 {
     let mut i: usize = 0;
     while i < n {
@@ -55,7 +56,7 @@ fn put_card(file: &[u8], n: usize, card: &mut [u8])
 // the card at the output's front and the bytes behind it as they were; the reader gives a file back whose END is its length. Refused, at 0
 // with count 0 and the output as it was: 17 for too short an output or more than 2^32 blocks.
 pub fn store_card(file: &[u8], card: &mut [u8]) -> Answer
-    ensures { StoresCard (before file) (before card) (after card) result }
+    ensures { StoresCard file.now card.old card.new result }
 {
     let n = blocks_for(file.len());
     if 4294967296 < n {

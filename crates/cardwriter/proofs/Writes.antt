@@ -7,7 +7,7 @@ use native.Mathlib.Omega.{arith}
 use lib.ListN.{length}
 use Rattle.wire.specs.Answer.{refusal}
 use Rattle.wire.specs.Check.{All, all, pick}
-use Rattle.wire.specs.Lent.{Lent, before, after}
+use Rattle.wire.specs.Lent.{Lent, MutLent, held, before, after}
 use Rattle.wire.specs.Output.{Made, made, answer_of, output_of, Makes}
 use Rattle.wire.specs.Output as output
 use Rattle.wire.specs.declared.Answer.{Answer}
@@ -68,13 +68,13 @@ module _ (f out : List ℕ) (a : Answer) (n : a.number ≡ 0 → ⊥) where
   refused_rows (passed qs ps os) i = absurd (n i)
   refused_rows (refused c p m) i = (refl, refl, refl)
 
-pub refused_first : (file out start part owner : Lent) {a : Answer}
-    → Seen (before file) (before start) (before part) (before owner) (after start) (after part) (after owner) a → (a.number ≡ 0 → ⊥)
+pub refused_first : (file : Lent) (out start part owner : MutLent) {a : Answer}
+    → Seen (held file) (before start) (before part) (before owner) (after start) (after part) (after owner) a → (a.number ≡ 0 → ⊥)
     → after out ≡ before out → WritesCard file out start part owner a
 refused_first file out start part owner {a} h n e =
-    let v = verdict compared (before file) (room_of (before start) (before part) (before owner)) in
-    let m = refused_made (before file) (before out) a n v h.number h.place h.count in
-    let k = refused_rows (before file) (before out) a n v h.number in
+    let v = verdict compared (held file) (room_of (before start) (before part) (before owner)) in
+    let m = refused_made (held file) (before out) a n v h.number h.place h.count in
+    let k = refused_rows (held file) (before out) a n v h.number in
     record {
       makes = record { answer = m.answer; output = e ∙ m.output };
       starts = h.starts ∙ ap (λ (x : List ℕ). filled x (length (before start))) k.0;
@@ -82,7 +82,7 @@ refused_first file out start part owner {a} h n e =
       owners = h.owners ∙ ap (λ (x : List ℕ). filled x (length (before owner))) k.2;
       demand = h.demand;
       back = λ z. absurd (n z);
-      again = again (before file) (length (before out)) _ h.demand;
+      again = again (held file) (length (before out)) _ h.demand;
     }
 
 -- a file that passes: its card, or 17
@@ -105,30 +105,30 @@ module _ (f : List ℕ) (n : ℕ) (rows : List ℕ) where
   unfolding card_in
   rows_gone e = by_no_fit (all (card_fits f n)) e
 
-module _ (file out start part owner : Lent) {a r : Answer} {s' p' o' : List ℕ}
-    (h : Seen (before file) (before start) (before part) (before owner) s' p' o' a) (z : a.number ≡ 0)
-    (w : StoresCard (before file) (before out) (after out) r) where
+module _ (file : Lent) (out start part owner : MutLent) {a r : Answer} {s' p' o' : List ℕ}
+    (h : Seen (held file) (before start) (before part) (before owner) s' p' o' a) (z : a.number ≡ 0)
+    (w : StoresCard (held file) (before out) (after out) r) where
   abbrev v : Verdict
-  v = verdict compared (before file) (room_of (before start) (before part) (before owner))
+  v = verdict compared (held file) (room_of (before start) (before part) (before owner))
 
   passes :
       (qs : List ℕ) × (ps : List ℕ) × (os : List ℕ) × (v ≡ passed qs ps os)
-      × Passes compared (before file) (room_of (before start) (before part) (before owner)) qs ps os
+      × Passes compared (held file) (room_of (before start) (before part) (before owner)) qs ps os
   passes = h.demand.sound (sym h.number ∙ z)
 
-  is_card : card_in (before file) (length (before out)) ≡ written_as v (before file) (length (before out))
-  is_card = ap (λ (v : Verdict). written_as v (before file) (length (before out))) (sym passes.3)
+  is_card : card_in (held file) (length (before out)) ≡ written_as v (held file) (length (before out))
+  is_card = ap (λ (v : Verdict). written_as v (held file) (length (before out))) (sym passes.3)
 
-  made_card : Makes (written_as v (before file) (length (before out))) (before out) (after out) r
+  made_card : Makes (written_as v (held file) (length (before out))) (before out) (after out) r
   made_card = record {
     answer = w.makes.answer ∙ ap answer_of is_card;
     output = w.makes.output ∙ ap (output_of (before out)) is_card;
   }
 
-  read_again : r.number ≡ 0 → CardReadBack (before file)
-  read_again e = w.back e (says_length_law (before file) passes.4.partition.0)
+  read_again : r.number ≡ 0 → CardReadBack (held file)
+  read_again e = w.back e (says_length_law (held file) passes.4.partition.0)
 
-  zero_of : (answer_of (card_in (before file) (length (before out)))).number ≡ r.number
+  zero_of : (answer_of (card_in (held file) (length (before out)))).number ≡ r.number
   zero_of = ap (λ (a : Answer). a.number) (sym w.makes.answer)
 
   pub written_all : r.number ≡ 0 → after start ≡ s' → after part ≡ p' → after owner ≡ o' → WritesCard file out start part owner r
@@ -140,12 +140,12 @@ module _ (file out start part owner : Lent) {a r : Answer} {s' p' o' : List ℕ}
         owners = k ∙ h.owners ∙ ap (λ (x : List ℕ). filled x (length (before owner))) (kept (owners_of v));
         demand = h.demand;
         back = read_again;
-        again = again (before file) (length (before out)) _ h.demand;
+        again = again (held file) (length (before out)) _ h.demand;
       }
     where
-      kept : (rows : List ℕ) → rows ≡ rows_left (written_as v (before file) (length (before out))) rows
+      kept : (rows : List ℕ) → rows ≡ rows_left (written_as v (held file) (length (before out))) rows
       kept rows =
-          sym (rows_kept (before file) (length (before out)) rows (zero_of ∙ e)) ∙ ap (λ (m : Made). rows_left m rows) is_card
+          sym (rows_kept (held file) (length (before out)) rows (zero_of ∙ e)) ∙ ap (λ (m : Made). rows_left m rows) is_card
 
   pub written_not : (r.number ≡ 0 → ⊥) → length s' ≡ length (before start) → length p' ≡ length (before part)
       → length o' ≡ length (before owner) → after start ≡ cleared s' 0 → after part ≡ cleared p' 0 → after owner ≡ cleared o' 0
@@ -158,12 +158,12 @@ module _ (file out start part owner : Lent) {a r : Answer} {s' p' o' : List ℕ}
         owners = n ∙ gone (owners_of v) o' (before owner) k;
         demand = h.demand;
         back = λ y. absurd (e y);
-        again = again (before file) (length (before out)) _ h.demand;
+        again = again (held file) (length (before out)) _ h.demand;
       }
     where
       gone : (rows t u : List ℕ) → length t ≡ length u
-          → cleared t 0 ≡ filled (rows_left (written_as v (before file) (length (before out))) rows) (length u)
+          → cleared t 0 ≡ filled (rows_left (written_as v (held file) (length (before out))) rows) (length u)
       gone rows t u q =
-          let none : [] ≡ rows_left (written_as v (before file) (length (before out))) rows
-          = sym (rows_gone (before file) (length (before out)) rows (λ y. e (sym zero_of ∙ y))) ∙ ap (λ (m : Made). rows_left m rows) is_card in
+          let none : [] ≡ rows_left (written_as v (held file) (length (before out))) rows
+          = sym (rows_gone (held file) (length (before out)) rows (λ y. e (sym zero_of ∙ y))) ∙ ap (λ (m : Made). rows_left m rows) is_card in
           ap (λ (n : ℕ). filled [] n) q ∙ ap (λ (x : List ℕ). filled x (length u)) none

@@ -1,7 +1,7 @@
 -- What the card writer promises: document 02, request 07, "The card writer gives the audit's own, then 17 for too short an output or more
 -- than 2^32 blocks".
 use Rattle.std.specs.Prelude.{ℕ, ◌≤◌, List, [], ◌≡◌, length}
-use Rattle.wire.specs.Lent.{Lent, before, after}
+use Rattle.wire.specs.Lent.{Lent, MutLent, held, before, after}
 use Rattle.wire.specs.Number.{Bytes}
 use Rattle.wire.specs.Output.{Made, made, Makes}
 use Rattle.wire.specs.Output as output
@@ -31,9 +31,9 @@ abbrev pub CardWrittenAgain : Verdict → List ℕ → ℕ → Type 0
 CardWrittenAgain v f n =
     (c : List ℕ) (room : ℕ) → Bytes c → read_in c room ≡ made f → number_of v ≡ 0 → length c ≤ n → written_as v f n ≡ made c
 
-module _ (file out start part owner : Lent) where
+module _ (file : Lent) (out start part owner : MutLent) where
   abbrev pub written : Made
-  written = written_as (told file start part owner) (before file) (length (before out))
+  written = written_as (told file start part owner) (held file) (length (before out))
 
   -- what the writer promises of the file, the output, the tables and the answer
   pub record WritesCard (r : Answer) : Type 0 where
@@ -44,8 +44,8 @@ module _ (file out start part owner : Lent) where
     pub parts : after part ≡ filled (rows_left written (parts_of (told file start part owner))) (length (before part))
     pub owners : after owner ≡ filled (rows_left written (owners_of (told file start part owner))) (length (before owner))
     -- the verdict means what the third demand says
-    pub demand : Demand compared (before file) (room file start part owner)
+    pub demand : Demand compared (held file) (room file start part owner)
     -- "Reader and writer undo each other for files that pass the audit": the card is read back as the file,
-    pub back : r.number ≡ 0 → CardReadBack (before file)
+    pub back : r.number ≡ 0 → CardReadBack (held file)
     -- and a card that was read as the file is written again
-    pub again : CardWrittenAgain (told file start part owner) (before file) (length (before out))
+    pub again : CardWrittenAgain (told file start part owner) (held file) (length (before out))

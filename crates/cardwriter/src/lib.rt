@@ -1,4 +1,6 @@
 // The card writer: the card of a file that passes the audit. The public function takes any input and has no precondition.
+#![tactic(auto)]
+
 ghost use Rattle.cardwriter.specs.Write.{WritesCard};
 
 use audit::audit;

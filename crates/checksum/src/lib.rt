@@ -1,6 +1,7 @@
 // The check of the transfer card. The public function takes any input and has no precondition.
+#![tactic(auto)]
+
 ghost use Rattle.std.specs.Prelude.{◌≡◌, ◌+◌, ◌*◌, ◌%◌, ◌^◌};
-ghost use Rattle.wire.specs.Lent.{before};
 ghost use Rattle.checksum.specs.Checksum.{step, check_from, check_of};
 
 use std::num::wrapping_add_u32;
@@ -16,7 +17,7 @@ fn more(check: u32, byte: u8) -> u32
 
 // The check after some bytes more.
 fn more_bytes(check: u32, bytes: &[u8]) -> u32
-    ensures { result ≡ check_from check (before bytes) }
+    ensures { result ≡ check_from check bytes.now }
 {
     let mut sum = check;
     let mut i: usize = 0;
@@ -49,7 +50,7 @@ fn power(n: usize) -> u32
 
 // The check of some bytes. Five fifths are done side by side, so that none waits for another, and then joined. At most four bytes are left.
 pub fn check(bytes: &[u8]) -> u32
-    ensures { result ≡ check_of (before bytes) }
+    ensures { result ≡ check_of bytes.now }
 {
     let n = bytes.len() / 5;
     let mut a: u32 = 0;

@@ -5,7 +5,7 @@ use mathlib.Core.Path.{◌≡◌, refl, sym, ap, ◌∙◌}
 use mathlib.Core.Logic.{⊎_elim}
 use native.Mathlib.Omega.{arith}
 use borrow.Author.Tests.{lt-ltb}
-use lib.ListN.{length, get_or, drop, length-take, length_map}
+use lib.ListN.{length, get_or, drop, length-take, length-map}
 use lib.Seq.{get_or-take, get_or-drop}
 use Rattle.wire.specs.Check.{Check, lt, eq, All}
 use Rattle.wire.proofs.Checks.{all_yes, below_or}
@@ -57,7 +57,7 @@ unfolding candidate_of
 candidate_in n b = go (first_in (deciding_bytes (leaves n)) b) refl
   where
     go : (f : First) → first_in (deciding_bytes (leaves n)) b ≡ f → chosen (leaves n) f < classes → In (chosen (leaves n) f) (leaves n)
-    go (At i) e l = (i, rw length_map at (first_holds (deciding_bytes (leaves n)) b i e).0, refl)
+    go (At i) e l = (i, rw length-map at (first_holds (deciding_bytes (leaves n)) b i e).0, refl)
     go Nowhere e l = absurd (omega arith)
 
 module _ (n : ℕ) where

@@ -4,7 +4,7 @@ use mathlib.Core.List.{List, [], ◌∷◌}
 use mathlib.Core.Bool.{Bool, true, false}
 use mathlib.Core.Path.{◌≡◌, refl, sym, ap, ◌∙◌}
 use native.Mathlib.Omega.{arith}
-use lib.ListN.{length, get_or, take, drop, length_map}
+use lib.ListN.{length, get_or, take, drop, length-map}
 use Rattle.wire.specs.Check.{Check, le, eq, yes, all, All}
 use Rattle.wire.specs.Equal.{eq_bytes}
 use Rattle.wire.specs.Number.{num_at}
@@ -91,7 +91,7 @@ module _ (n b : ℕ) {a z : ℕ} (h : Counted n a z) (t : List ℕ) (is : t ≡ 
 
   module _ {i : ℕ} (g : y ≡ At i) where
     at_row : i < length (leaves n)
-    at_row = rw (rows, length_map) at (first_within _ b found g)
+    at_row = rw (rows, length-map) at (first_within _ b found g)
 
     pub row_below : a + i < classes
     row_below = let r = (row n i at_row).1 in omega (arith, h.first, h.end, h.most)

@@ -1,12 +1,11 @@
 // The first place of a byte.
 ghost use Rattle.std.specs.Prelude.{◌≡◌};
-ghost use Rattle.wire.specs.Lent.{before};
 ghost use Rattle.classname.specs.Find.{first_in};
 
 use wire::number::be8;
 
 // The first place of a list that holds a value.
-#[derive(Drop)]
+#[derive(Clone, Copy)]
 pub enum First {
     At(usize),
     Nowhere,
@@ -14,7 +13,7 @@ pub enum First {
 
 // The first place of a byte; nowhere for a number above 255.
 pub fn first_byte(s: &[u8], byte: u32) -> First
-    ensures { result ≡ first_in (before s) byte }
+    ensures { result ≡ first_in s.now byte }
 {
     let mut i: usize = 0;
     while i < s.len() {

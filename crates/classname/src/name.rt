@@ -1,6 +1,5 @@
 // The class that a name has: by its length, then by the byte at index 9, then by all of it.
 ghost use Rattle.std.specs.Prelude.{◌≡◌};
-ghost use Rattle.wire.specs.Lent.{before};
 ghost use Rattle.classname.specs.Name.{class_of};
 ghost use Rattle.classname.specs.Length.{Decides};
 
@@ -65,7 +64,7 @@ fn candidate(len: usize, byte: u32) -> usize
 
 // The class that a byte string names, 12 for none.
 pub fn class_of(name: &[u8]) -> usize
-    ensures { result ≡ class_of (before name) }
+    ensures { result ≡ class_of name.now }
 {
     let class = candidate(name.len(), be8(name, 9));
     if NONE <= class {

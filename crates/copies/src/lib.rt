@@ -1,8 +1,9 @@
 // A directory's keys list and the copies in it, by their bytes: what each gives its record. Every public function takes any input and
 // has no precondition; where it matters, the promise is for a table that rises.
+#![tactic(auto)]
+
 ghost use Rattle.std.specs.Prelude.{◌≡◌};
 ghost use Rattle.wire.specs.Check.{pick};
-ghost use Rattle.wire.specs.Lent.{before};
 ghost use Rattle.wire.specs.Name.{t_directory};
 ghost use Rattle.record.specs.Name.{named};
 ghost use Rattle.rules.specs.Part.{dir, listed};
@@ -18,7 +19,7 @@ use rows::lists::is_nothing;
 use rows::{Row, find_row, seek_row};
 
 // A keys list: the place of its directory, its own, and the end of its data.
-#[derive(Drop)]
+#[derive(Clone, Copy)]
 pub struct Span {
     pub dir: u64,
     pub seek: u64,
@@ -26,7 +27,7 @@ pub struct Span {
 }
 
 // A record that is to have a part and an owner: its row and both; the next place of a list; the place of a refusal.
-#[derive(Drop)]
+#[derive(Clone, Copy)]
 pub struct Claim {
     pub row: usize,
     pub part: u64,
@@ -36,14 +37,14 @@ pub struct Claim {
 }
 
 // A copy: what it gives its record, or a refusal.
-#[derive(Drop)]
+#[derive(Clone, Copy)]
 pub enum Entry {
     Fits(Claim),
     Fault(u32, usize),
 }
 
 // A directory's keys list: none, what it gives its own record, with the start and end of its data, or a refusal.
-#[derive(Drop)]
+#[derive(Clone, Copy)]
 pub enum Keys {
     Nothing,
     Held(Claim, usize, usize),
@@ -52,7 +53,7 @@ pub enum Keys {
 
 // The part of a record that is listed: 14 is a directory, found and not done.
 fn mark_of(file: &[u8], k: Key) -> u64
-    ensures { result ≡ pick (named (before file) k.class t_directory) (found dir) listed }
+    ensures { result ≡ pick (named file.now k.class t_directory) (found dir) listed }
 {
     if is_directory(file, k.class) {
         return 14;
@@ -63,7 +64,7 @@ fn mark_of(file: &[u8], k: Key) -> u64
 // Tests a copy of a keys list: part and owner that it gives its record, or 12 at the list or 13 at the copy, as the order has them for
 // starts that rise; whichever row is looked at first.
 pub fn test_copy(file: &[u8], start: &[u64], list: Span, at: usize, near: usize) -> Entry
-    ensures { Tests (before file) (before start) list at result }
+    ensures { Tests file.now start.now list at result }
 {
     let Header::Good(k) = read_copy(file, at, list.end) else {
         return Entry::Fault(12, list.seek as usize);
@@ -93,7 +94,7 @@ pub fn test_copy(file: &[u8], start: &[u64], list: Span, at: usize, near: usize)
 // The keys list of a directory: none, part and owner that it gives its own record, or 12 at SeekKeys, as the order has them for starts that
 // rise.
 pub fn find_list(file: &[u8], start: &[u64], dir: u64, head: DirHead) -> Keys
-    ensures { Finds (before file) (before start) dir head result }
+    ensures { Finds file.now start.now dir head result }
 {
     let seek = head.seekkeys;
     let nbytes = head.nbyteskeys;

@@ -1,9 +1,11 @@
 // Packed dates (document 000, Datime). Every public function takes any input and has no precondition.
+#![tactic(auto)]
+
 ghost use Rattle.date.specs.Date.{Packs, Unpacks};
 
 use wire::{Answer, finished, refused};
 
-#[derive(Drop)]
+#[derive(Clone, Copy)]
 pub struct Date {
     pub year: u32,
     pub month: u32,

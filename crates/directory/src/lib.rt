@@ -1,7 +1,8 @@
 // Directory headers (document 003), and the head's. Every public function takes any input and has no precondition.
+#![tactic(auto)]
+
 ghost use Rattle.std.specs.Prelude.{◌≡◌};
 ghost use Rattle.wire.specs.Answer.{Gives};
-ghost use Rattle.wire.specs.Lent.{before};
 ghost use Rattle.directory.specs.Dir.{dir_in, head_dir_in, head_in, head_answer, sub_in, sub_answer};
 
 use key::piece::{Piece, read_piece};
@@ -9,7 +10,7 @@ use record::{is_file, is_plain_record, is_unpacked};
 use wire::number::{be_offset, be16, be32, width};
 use wire::text::{Found, read_text};
 
-#[derive(Drop)]
+#[derive(Clone, Copy)]
 pub struct DirHead {
     pub nbyteskeys: u32,
     pub nbytesname: u32,
@@ -18,7 +19,7 @@ pub struct DirHead {
     pub seekkeys: u64,
 }
 
-#[derive(Drop)]
+#[derive(Clone, Copy)]
 pub enum Dir {
     Held(DirHead),
     Bad,
@@ -26,7 +27,7 @@ pub enum Dir {
 
 // The directory header at a place, if it lies before end and its version is at most 2000.
 fn read_dir(s: &[u8], at: usize, end: usize) -> Dir
-    ensures { result ≡ dir_in (before s) at end }
+    ensures { result ≡ dir_in s.now at end }
 {
     if s.len() < end {
         return Dir::Bad;
@@ -54,7 +55,7 @@ fn read_dir(s: &[u8], at: usize, end: usize) -> Dir
 
 // The head's directory header after its key at a place: a name, a title, then the header.
 fn head_dir(s: &[u8], at: usize, end: usize, nbytesname: u32) -> Dir
-    ensures { result ≡ head_dir_in (before s) at end nbytesname }
+    ensures { result ≡ head_dir_in s.now at end nbytesname }
 {
     let Found::Held(name) = read_text(s, at, end) else {
         return Dir::Bad;
@@ -84,7 +85,7 @@ fn head_dir(s: &[u8], at: usize, end: usize, nbytesname: u32) -> Dir
 
 // The head: a plain unpacked record of class TFile at 100, and its directory header; else 8 at 100.
 pub fn read_head(file: &[u8], nbytesname: u32) -> Dir
-    ensures { Gives head_answer result (head_in (before file) nbytesname) }
+    ensures { Gives head_answer result (head_in file.now nbytesname) }
 {
     let Piece::Record(k) = read_piece(file, 100) else {
         return Dir::Bad;
@@ -105,7 +106,7 @@ pub fn read_head(file: &[u8], nbytesname: u32) -> Dir
 
 // A subdirectory's header, which follows its key, for a listing directory; else 11 at the subdirectory.
 pub fn read_sub(file: &[u8], at: usize, parent: usize) -> Dir
-    ensures { Gives (sub_answer at) result (sub_in (before file) at parent) }
+    ensures { Gives (sub_answer at) result (sub_in file.now at parent) }
 {
     let Piece::Record(k) = read_piece(file, at) else {
         return Dir::Bad;

@@ -1,13 +1,14 @@
 // The file header: its first 100 bytes.
+#![tactic(auto)]
+
 ghost use Rattle.std.specs.Prelude.{◌≡◌};
 ghost use Rattle.wire.specs.Answer.{Gives};
-ghost use Rattle.wire.specs.Lent.{before};
 ghost use Rattle.fileheader.specs.File.{is_wide, file_number, file_head, end_fits, opened_as, open_answer};
 
 use wire::number::{be_offset, be8, be32, width};
 
 // What the audit needs of a good header.
-#[derive(Drop)]
+#[derive(Clone, Copy)]
 pub struct FileHead {
     pub wide: bool,
     pub seekfree: u64,
@@ -18,7 +19,7 @@ pub struct FileHead {
     pub nbytesinfo: u32,
 }
 
-#[derive(Drop)]
+#[derive(Clone, Copy)]
 pub enum Opened {
     Good(FileHead),
     Refused(u32),
@@ -27,7 +28,7 @@ pub enum Opened {
 // The fields of a header, in the wide form or not.
 fn read_fields(file: &[u8], wide: bool) -> FileHead
     requires { wide ≡ is_wide file.now }
-    ensures { result ≡ file_head (before file) }
+    ensures { result ≡ file_head file.now }
 {
     let w = width(wide);
     let free = 12 + w;
@@ -46,7 +47,7 @@ fn read_fields(file: &[u8], wide: bool) -> FileHead
 
 // END, as the header at the front of some bytes has it, in the width that its Version says; 0 where they end before it.
 pub fn end_of(file: &[u8]) -> u64
-    ensures { result ≡ file_number (before file) 3 }
+    ensures { result ≡ file_number file.now 3 }
 {
     be_offset(file, 12, 1000000 <= be32(file, 4))
 }
@@ -63,7 +64,7 @@ fn end_fits(wide: bool, end: usize) -> bool
 
 // The header of a whole file, or the first of 1 to 4 that it breaks, at 0.
 pub fn open(file: &[u8]) -> Opened
-    ensures { Gives open_answer result (opened_as (before file)) }
+    ensures { Gives open_answer result (opened_as file.now) }
 {
     let end = file.len();
     if end < 100 {

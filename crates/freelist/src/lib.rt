@@ -1,8 +1,9 @@
 // The free list: its segments are the gaps of the file in file order, then the rest of the file; the second audit does not compare them
 // with the gaps. The public function takes any input and has no precondition; its promise is for a table that rises.
+#![tactic(auto)]
+
 ghost use Rattle.std.specs.Prelude.{◌≡◌};
 ghost use Rattle.wire.specs.Check.{all};
-ghost use Rattle.wire.specs.Lent.{before};
 ghost use Rattle.rules.specs.Free.{segment_version, last_fits, gaps, free_holds};
 ghost use Rattle.rows.specs.Row.{Rises};
 ghost use Rattle.freelist.specs.Segment.{segment_in, after_segment, final_is, segments_are, segments_stand};
@@ -14,14 +15,14 @@ use rows::{Row, find_row};
 use wire::number::{be_offset, be16, width};
 
 // A segment: its first and last, and the place after it.
-#[derive(Drop)]
+#[derive(Clone, Copy)]
 pub struct Segment {
     pub first: u64,
     pub last: u64,
     pub next: usize,
 }
 
-#[derive(Drop)]
+#[derive(Clone, Copy)]
 pub enum Listed {
     Held(Segment),
     Bad,
@@ -49,7 +50,7 @@ fn last_fits(wide: bool, end: usize, last: u64) -> bool
 
 // The segment at a place of the data, if it ends at or before end and the file may have its Version.
 fn read_segment(file: &[u8], at: usize, end: usize, wide: bool) -> Listed
-    ensures { result ≡ segment_in wide (before file) at end }
+    ensures { result ≡ segment_in wide file.now at end }
 {
     if end < at {
         return Listed::Bad;
@@ -72,7 +73,7 @@ fn read_segment(file: &[u8], at: usize, end: usize, wide: bool) -> Listed
 
 // The place after the segment at a place, if that has this first and last; else 0.
 fn after_segment(file: &[u8], at: usize, end: usize, wide: bool, first: u64, last: u64) -> usize
-    ensures { result ≡ after_segment wide (before file) at end first last }
+    ensures { result ≡ after_segment wide file.now at end first last }
 {
     let Listed::Held(g) = read_segment(file, at, end, wide) else {
         return 0;
@@ -88,7 +89,7 @@ fn after_segment(file: &[u8], at: usize, end: usize, wide: bool, first: u64, las
 
 // Whether the segment at a place is the final one, and the last of the data.
 fn is_final(file: &[u8], at: usize, end: usize, wide: bool) -> bool
-    ensures { result ≡ all (final_is wide (before file) at end) }
+    ensures { result ≡ all (final_is wide file.now at end) }
 {
     let Listed::Held(g) = read_segment(file, at, end, wide) else {
         return false;
@@ -111,7 +112,7 @@ fn match_segments(
     from: usize,
     end: usize,
 ) -> bool
-    ensures { result ≡ segments_are wide (before file) end (gaps (before file) (before start)) count from }
+    ensures { result ≡ segments_are wide file.now end (gaps file.now start.now) count from }
 {
     let mut at = from;
     let mut left = count;
@@ -140,7 +141,7 @@ fn match_segments(
 
 // Whether some segments, from a place to the end of the data, end with the rest of the file, whatever the others are.
 fn end_segments(file: &[u8], wide: bool, count: u32, from: usize, end: usize) -> bool
-    ensures { result ≡ segments_stand wide (before file) end count from }
+    ensures { result ≡ segments_stand wide file.now end count from }
 {
     let mut at = from;
     let mut left = count;
@@ -159,7 +160,7 @@ fn end_segments(file: &[u8], wide: bool, count: u32, from: usize, end: usize) ->
 
 // Whether the free list rule holds, for starts that rise; where compare is false, without the comparison of the segments with the gaps.
 pub fn check_free(file: &[u8], start: &[u64], head: FileHead, compare: bool) -> bool
-    ensures { Rises (before start) → result ≡ free_holds compare (before file) (before start) head }
+    ensures { Rises start.now → result ≡ free_holds compare file.now start.now head }
 {
     let seek = head.seekfree;
     if seek == 100 {

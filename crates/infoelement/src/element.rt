@@ -1,27 +1,26 @@
 // TNamed, a TStreamerInfo up to its array, TStreamerElement and the classes over it (document 002).
 ghost use Rattle.std.specs.Prelude.{◌≡◌};
-ghost use Rattle.wire.specs.Lent.{before};
 ghost use Rattle.infoelement.specs.Element.{named_at, class_body_at, details_at, base_at, counter_at, own_at, member_at};
 
 use infofield::field::{Body, Opened, Step, ended, numbers, object, text, versioned};
 use wire::number::be32;
 
 // The place of a name's first length byte, and the place after its TNamed.
-#[derive(Drop)]
+#[derive(Clone, Copy)]
 pub struct Name {
     pub at: usize,
     pub next: usize,
 }
 
 // A TNamed.
-#[derive(Drop)]
+#[derive(Clone, Copy)]
 pub enum Named {
     Held(Name),
     Wrong(u32, usize),
 }
 
 // What a row takes from an element: where its names stand, and two numbers; and the place after it.
-#[derive(Drop)]
+#[derive(Clone, Copy)]
 pub struct Fields {
     pub name: usize,
     pub typename: usize,
@@ -31,7 +30,7 @@ pub struct Fields {
 }
 
 // An element.
-#[derive(Drop)]
+#[derive(Clone, Copy)]
 pub enum Member {
     Held(Fields),
     Wrong(u32, usize),
@@ -39,7 +38,7 @@ pub enum Member {
 
 // A TNamed.
 fn read_named(file: &[u8], at: usize, end: usize) -> Named
-    ensures { result ≡ named_at (before file) at end }
+    ensures { result ≡ named_at file.now at end }
 {
     let body = match versioned(file, at, end) {
         Opened::Held(body) => body,
@@ -74,7 +73,7 @@ fn read_named(file: &[u8], at: usize, end: usize) -> Named
 
 // A TStreamerInfo after its tag, up to its array: where that starts, and the end of the object; or the first fault.
 pub fn read_class(file: &[u8], at: usize, end: usize) -> Opened
-    ensures { result ≡ class_body_at (before file) at end }
+    ensures { result ≡ class_body_at file.now at end }
 {
     let body = match versioned(file, at, end) {
         Opened::Held(body) => body,
@@ -97,7 +96,7 @@ pub fn read_class(file: &[u8], at: usize, end: usize) -> Opened
 
 // A TStreamerElement after its name: the numbers and the name of its type.
 fn details(file: &[u8], name: Name, end: usize) -> Member
-    ensures { result ≡ details_at (before file) name end }
+    ensures { result ≡ details_at file.now name end }
 {
     let type_at = name.next;
     let length_at = match numbers(2, type_at, end) {
@@ -132,7 +131,7 @@ fn details(file: &[u8], name: Name, end: usize) -> Member
 
 // A TStreamerElement.
 fn base(file: &[u8], at: usize, end: usize) -> Member
-    ensures { result ≡ base_at (before file) at end }
+    ensures { result ≡ base_at file.now at end }
 {
     let body = match versioned(file, at, end) {
         Opened::Held(body) => body,
@@ -149,7 +148,7 @@ fn base(file: &[u8], at: usize, end: usize) -> Member
 
 // fCountVersion, fCountName and fCountClass.
 fn counter(file: &[u8], at: usize, end: usize) -> Step
-    ensures { result ≡ counter_at (before file) at end }
+    ensures { result ≡ counter_at file.now at end }
 {
     let r = numbers(1, at, end);
     let Step::Next(name) = r else {
@@ -163,8 +162,9 @@ fn counter(file: &[u8], at: usize, end: usize) -> Step
 }
 
 // The data of a kind.
+#[tactic(auto, unfolding(crate::specs::Element::own_at))]
 fn own(file: &[u8], kind: usize, at: usize, end: usize) -> Step
-    ensures { result ≡ own_at (before file) kind at end }
+    ensures { result ≡ own_at file.now kind at end }
 {
     if kind == 1 {
         return numbers(1, at, end);
@@ -183,7 +183,7 @@ fn own(file: &[u8], kind: usize, at: usize, end: usize) -> Step
 
 // An element of any kind after its tag: the places of its name and type name, fType, fArrayLength and the place after; or the first fault.
 pub fn read_member(file: &[u8], kind: usize, at: usize, end: usize) -> Member
-    ensures { result ≡ member_at (before file) kind at end }
+    ensures { result ≡ member_at file.now kind at end }
 {
     let body = match versioned(file, at, end) {
         Opened::Held(body) => body,

@@ -1,6 +1,5 @@
 // Fields, ByteCounts and ends of objects (document 002).
 ghost use Rattle.std.specs.Prelude.{◌≡◌, ◌-◌};
-ghost use Rattle.wire.specs.Lent.{before};
 ghost use Rattle.infofield.specs.Field.{count_at, field_at, versioned_at, numbers_at, text_field_at, unnamed_at};
 ghost use Rattle.infofield.specs.Field.{object_at, ended_at, zero_at};
 
@@ -8,28 +7,28 @@ use wire::number::be32;
 use wire::text::{Found, read_text};
 
 // The place after what was read, or the first fault: its number and its place.
-#[derive(Drop)]
+#[derive(Clone, Copy)]
 pub enum Step {
     Next(usize),
     Wrong(u32, usize),
 }
 
 // What a ByteCount opens: the place after it and the object's end.
-#[derive(Drop)]
+#[derive(Clone, Copy)]
 pub enum Count {
     Open(usize, usize),
     Bad,
 }
 
 // The content of an object: the place after its version, and its end.
-#[derive(Drop)]
+#[derive(Clone, Copy)]
 pub struct Body {
     pub from: usize,
     pub close: usize,
 }
 
 // An object that was opened, or the first fault.
-#[derive(Drop)]
+#[derive(Clone, Copy)]
 pub enum Opened {
     Held(Body),
     Wrong(u32, usize),
@@ -47,7 +46,7 @@ pub fn offset(from: usize, at: usize) -> usize
 
 // The ByteCount at a place, within the innermost open end: the place after it and the object's end, or bad.
 pub fn open(file: &[u8], at: usize, end: usize) -> Count
-    ensures { result ≡ count_at (before file) at end }
+    ensures { result ≡ count_at file.now at end }
 {
     if end < at {
         return Count::Bad;
@@ -85,7 +84,7 @@ pub fn field(size: usize, at: usize, end: usize) -> Step
 
 // The ByteCount and the version of an object: the place after them and its end, or 21 at the first fault.
 pub fn versioned(file: &[u8], at: usize, end: usize) -> Opened
-    ensures { result ≡ versioned_at (before file) at end }
+    ensures { result ≡ versioned_at file.now at end }
 {
     let Count::Open(from, close) = open(file, at, end) else {
         return Opened::Wrong(21, at);
@@ -115,7 +114,7 @@ pub fn numbers(count: usize, at: usize, end: usize) -> Step
 
 // A string with its length: the place after it, or 21 at one of another form or past end.
 pub fn text(file: &[u8], at: usize, end: usize) -> Step
-    ensures { result ≡ text_field_at (before file) at end }
+    ensures { result ≡ text_field_at file.now at end }
 {
     let Found::Held(t) = read_text(file, at, end) else {
         return Step::Wrong(21, at);
@@ -125,7 +124,7 @@ pub fn text(file: &[u8], at: usize, end: usize) -> Step
 
 // The name of a list or an array, which has none: a length byte 0, else 21.
 pub fn unnamed(file: &[u8], at: usize, end: usize) -> Step
-    ensures { result ≡ unnamed_at (before file) at end }
+    ensures { result ≡ unnamed_at file.now at end }
 {
     let Found::Held(t) = read_text(file, at, end) else {
         return Step::Wrong(21, at);
@@ -139,7 +138,7 @@ pub fn unnamed(file: &[u8], at: usize, end: usize) -> Step
 
 // A number of four bytes that is 0, else 21.
 pub fn zero(file: &[u8], at: usize, end: usize) -> Step
-    ensures { result ≡ zero_at (before file) at end }
+    ensures { result ≡ zero_at file.now at end }
 {
     let r = field(4, at, end);
     let Step::Next(_next) = r else {
@@ -153,7 +152,7 @@ pub fn zero(file: &[u8], at: usize, end: usize) -> Step
 
 // A TObject: 21 at a field that ends past end, 23 at its bits where it is referenced.
 pub fn object(file: &[u8], at: usize, end: usize) -> Step
-    ensures { result ≡ object_at (before file) at end }
+    ensures { result ≡ object_at file.now at end }
 {
     let r = field(2, at, end);
     let Step::Next(id) = r else {

@@ -1,13 +1,10 @@
 -- Lists, arrays and options: what an answer is, from the answers of the steps, and where the objects end.
 use Prim.Native.Nat.{ℕ, ◌+◌, ◌<◌, ◌≤◌}
-use mathlib.Core.List.{List, [], ◌∷◌}
+use mathlib.Core.List.{List}
 use mathlib.Core.Bool.{Bool, true, false, not}
 use mathlib.Core.Path.{◌≡◌, refl, sym, ◌∙◌}
-use mathlib.Core.Logic.{inl, inr}
 use native.Mathlib.Omega.{arith}
 use borrow.Author.Tests.{lt-ltb, le-ltb, eq-eqb, ne_eqb, eqb-true}
-use denote.Enum.Declared.{tag_of}
-use types.Run.{OneOf}
 use lib.Dec.{eqb}
 use lib.ListN.{length}
 use Rattle.wire.specs.Check.{all, pick}
@@ -21,7 +18,6 @@ use Rattle.key.specs.declared.header.Key.{Key}
 use Rattle.key.specs.declared.piece.Piece.{Piece}
 use Rattle.key.specs.declared.piece.Piece.TheVariants.{Record, Gap, Refused}
 use Rattle.key.proofs.Pieces.{from_record}
-use Rattle.key.specs.contracts.piece.Piece.{the_type}
 use Rattle.infofield.specs.Field.{field_at, count_at, unnamed_at, zero_at, text_field_at, object_at}
 use Rattle.infofield.specs.declared.field.Step.TheVariants.{Next}
 use Rattle.infofield.specs.declared.field.Count.{Count}
@@ -72,13 +68,12 @@ found s p d g =
 
 -- the list of the piece at a place
 module _ (s : List ℕ) (p : ℕ) {y : Piece} (is : y ≡ piece_at s p) where
-  pub of_none : OneOf (1 ∷ 2 ∷ []) (tag_of the_type y) → no_record y p ≡ info_list_at s p
+  pub of_none : ((k : Key) → y ≡ Record k → ⊥) → no_record y p ≡ info_list_at s p
   unfolding info_list_at
   of_none h = rw (← is) (go y h)
     where
-      go : (x : Piece) → OneOf (1 ∷ 2 ∷ []) (tag_of the_type x) → no_record x p ≡ on_piece s p x
-      go (Record k) (inl z) = absurd (omega arith)
-      go (Record k) (inr z) = absurd (omega arith)
+      go : (x : Piece) → ((k : Key) → x ≡ Record k → ⊥) → no_record x p ≡ on_piece s p x
+      go (Record k) i = absurd (i k refl)
       go (Gap n) i = refl
       go (Refused c q) i = refl
 

@@ -1,6 +1,5 @@
 // What a list and an array start with (document 002), and the option after each object of the list (request 05).
 ghost use Rattle.std.specs.Prelude.{◌≡◌};
-ghost use Rattle.wire.specs.Lent.{before};
 ghost use Rattle.infolist.specs.List.{collection_at, array_body_at, whole_list_at, no_record, info_list_at, option_at};
 
 use infofield::field::{Count, Step, field, object, open, text, unnamed, zero};
@@ -9,7 +8,7 @@ use record::is_info_key;
 use wire::number::{be8, be16, be32};
 
 // The objects of a list or an array: its Version, how many there are, where they start, and the end that they stand within.
-#[derive(Drop)]
+#[derive(Clone, Copy)]
 pub struct Objects {
     pub version: u32,
     pub count: u32,
@@ -18,7 +17,7 @@ pub struct Objects {
 }
 
 // The start of a list or an array, or the first fault: its number and its place.
-#[derive(Drop)]
+#[derive(Clone, Copy)]
 pub enum Collection {
     Held(Objects),
     Wrong(u32, usize),
@@ -26,7 +25,7 @@ pub enum Collection {
 
 // Version, TObject, no name and nObjects: what every collection starts with, and the place after it.
 fn read_collection(file: &[u8], at: usize, end: usize) -> Collection
-    ensures { result ≡ collection_at (before file) at end }
+    ensures { result ≡ collection_at file.now at end }
 {
     let base = match field(2, at, end) {
         Step::Next(next) => next,
@@ -60,7 +59,7 @@ fn read_collection(file: &[u8], at: usize, end: usize) -> Collection
 // A TObjArray after its tag, up to its objects: its ByteCount, what every collection starts with, and a lower bound of 0; or the first
 // fault, 21 or 23 at the field.
 pub fn read_array(file: &[u8], at: usize, end: usize) -> Collection
-    ensures { result ≡ array_body_at (before file) at end }
+    ensures { result ≡ array_body_at file.now at end }
 {
     let Count::Open(from, close) = open(file, at, end) else {
         return Collection::Wrong(21, at);
@@ -82,7 +81,7 @@ pub fn read_array(file: &[u8], at: usize, end: usize) -> Collection
 
 // A list whose ByteCount ends where the data does.
 fn whole_list(file: &[u8], at: usize, end: usize) -> Collection
-    ensures { result ≡ whole_list_at (before file) at end }
+    ensures { result ≡ whole_list_at file.now at end }
 {
     let Count::Open(from, close) = open(file, at, end) else {
         return Collection::Wrong(21, at);
@@ -107,7 +106,7 @@ fn no_record(piece: Piece, at: usize) -> Collection
 // The list that fills the data of the StreamerInfo record at a place; or 5 or 6 as for a piece, 20 for no such record, 19 for a packed one,
 // then the first fault.
 pub fn read_list(file: &[u8], at: usize) -> Collection
-    ensures { result ≡ info_list_at (before file) at }
+    ensures { result ≡ info_list_at file.now at }
 {
     let piece = read_piece(file, at);
     let Piece::Record(k) = piece else {
@@ -128,7 +127,7 @@ pub fn read_list(file: &[u8], at: usize) -> Collection
 // The option after an object of a list of this Version: the place after it, or 21 at it. None below 4; in 4 a length byte 0 to 255; from 5
 // on a string.
 pub fn read_option(file: &[u8], version: u32, at: usize, end: usize) -> Step
-    ensures { result ≡ option_at version (before file) at end }
+    ensures { result ≡ option_at version file.now at end }
 {
     if version < 4 {
         return Step::Next(at);

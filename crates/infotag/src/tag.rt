@@ -1,6 +1,5 @@
 // Class tags (document 002, ClassInfo).
 ghost use Rattle.std.specs.Prelude.{◌≡◌, get_or};
-ghost use Rattle.wire.specs.Lent.{before};
 ghost use Rattle.classname.specs.Find.{first_in};
 ghost use Rattle.infotag.specs.Tag.{class_name_at, new_tag, old_tag, tag_at, head_at};
 
@@ -10,21 +9,21 @@ use infofield::field::{Count, Step, field, offset, open};
 use wire::number::{be32, least};
 
 // A name ended by zero: the class that it names and the place after the zero.
-#[derive(Drop)]
+#[derive(Clone, Copy)]
 pub enum Class {
     Named(usize, usize),
     Cut,
 }
 
 // A tag: its class, the offset of the class's new tag in the record, and the place after it.
-#[derive(Drop)]
+#[derive(Clone, Copy)]
 pub enum Tag {
     Known(usize, usize, usize),
     Wrong(u32, usize),
 }
 
 // What an object starts with: its class, the offset of the class's new tag, the place after its tag, and its end.
-#[derive(Drop)]
+#[derive(Clone, Copy)]
 pub struct Start {
     pub class: usize,
     pub offset: usize,
@@ -33,7 +32,7 @@ pub struct Start {
 }
 
 // An object's ByteCount and tag.
-#[derive(Drop)]
+#[derive(Clone, Copy)]
 pub enum Head {
     Known(Start),
     Wrong(u32, usize),
@@ -41,7 +40,7 @@ pub enum Head {
 
 // The offset of a class's new tag, 0 where there was none.
 fn seen(tags: &[usize], class: usize) -> usize
-    ensures { result ≡ get_or (before tags) class 0 }
+    ensures { result ≡ get_or tags.now class 0 }
 {
     if tags.len() <= class {
         return 0;
@@ -51,7 +50,7 @@ fn seen(tags: &[usize], class: usize) -> usize
 
 // The class whose new tag stands at an offset.
 fn first_offset(tags: &[usize], offset: usize) -> First
-    ensures { result ≡ first_in (before tags) offset }
+    ensures { result ≡ first_in tags.now offset }
 {
     let mut i: usize = 0;
     while i < tags.len() {
@@ -65,7 +64,7 @@ fn first_offset(tags: &[usize], offset: usize) -> First
 
 // The class that is named from a place on, within the innermost open end.
 fn class_at(file: &[u8], from: usize, end: usize) -> Class
-    ensures { result ≡ class_name_at (before file) from end }
+    ensures { result ≡ class_name_at file.now from end }
 {
     let stop = least(end, file.len());
     if stop < from {
@@ -89,7 +88,7 @@ fn new_tag(
     high: usize,
     tags: &[usize],
 ) -> Tag
-    ensures { result ≡ new_tag (before file) rec at from end low high (before tags) }
+    ensures { result ≡ new_tag file.now rec at from end low high tags.now }
 {
     let Class::Named(class, next) = class_at(file, from, end) else {
         return Tag::Wrong(21, at);
@@ -108,7 +107,7 @@ fn new_tag(
 
 // A number that refers to an earlier tag.
 fn old_tag(v: u32, at: usize, next: usize, low: usize, high: usize, tags: &[usize]) -> Tag
-    ensures { result ≡ old_tag v at next low high (before tags) }
+    ensures { result ≡ old_tag v at next low high tags.now }
 {
     if v <= 2147483650 {
         return Tag::Wrong(22, at);
@@ -136,7 +135,7 @@ fn read_tag(
     high: usize,
     tags: &[usize],
 ) -> Tag
-    ensures { result ≡ tag_at (before file) rec at end low high (before tags) }
+    ensures { result ≡ tag_at file.now rec at end low high tags.now }
 {
     let next = match field(4, at, end) {
         Step::Next(next) => next,
@@ -162,7 +161,7 @@ pub fn read_head(
     high: usize,
     tags: &[usize],
 ) -> Head
-    ensures { result ≡ head_at (before file) rec at end low high (before tags) }
+    ensures { result ≡ head_at file.now rec at end low high tags.now }
 {
     let Count::Open(from, close) = open(file, at, end) else {
         return Head::Wrong(21, at);

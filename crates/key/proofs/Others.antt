@@ -1,13 +1,9 @@
--- A piece that was read and is no record, as the `else` of `let Piece::Record(k) = .. else { .. }` knows it: by its variant's number.
+-- A piece that was read and is no record, as the `else` of `let Piece::Record(k) = .. else { .. }` knows it.
 use Prim.Native.Nat.{ℕ, ◌+◌, ◌≤◌}
 use lib.ListN.{length}
-use mathlib.Core.List.{List, [], ◌∷◌}
-use mathlib.Core.Logic.{⊎_elim}
+use mathlib.Core.List.{List}
 use mathlib.Core.Path.{◌≡◌, refl, sym, ap, ◌∙◌}
 use native.Mathlib.Omega.{arith}
-use denote.Enum.Declared.{tag_of}
-use types.Run.{OneOf}
-use Rattle.key.specs.contracts.piece.Piece.{the_type}
 use Rattle.key.proofs.Pieces.{from_record}
 use Rattle.key.specs.Piece.{piece_at, on_record}
 use Rattle.key.specs.Writer.{Reads}
@@ -16,15 +12,15 @@ use Rattle.key.specs.declared.piece.Piece.{Piece}
 use Rattle.key.specs.declared.piece.Piece.TheVariants.{Record, Gap, Refused}
 
 -- a fact of every gap and every refusal is a fact of a piece that is no record
-pub no_record : (P : Piece → Type 0) (r : Piece) → OneOf (1 ∷ 2 ∷ []) (tag_of the_type r) → ((n : ℕ) → P (Gap n))
+pub no_record : (P : Piece → Type 0) (r : Piece) → ((k : Key) → r ≡ Record k → ⊥) → ((n : ℕ) → P (Gap n))
     → ((c q : ℕ) → P (Refused c q)) → P r
-no_record P (Record k) h f g = absurd (⊎_elim (λ (e : 0 ≡ 1). omega arith) (λ (e : 0 ≡ 2). omega arith) h)
+no_record P (Record k) h f g = absurd (h k refl)
 no_record P (Gap n) h f g = f n
 no_record P (Refused c q) h f g = g c q
 
 module _ {A : Type 0} (f : Piece → A) (s : List ℕ) (p : ℕ) {r : Piece} (e : Reads s p r) where
   -- what is answered where no record stands at p
-  pub if_other : (b : A) → OneOf (1 ∷ 2 ∷ []) (tag_of the_type r) → ((n : ℕ) → b ≡ f (Gap n)) → ((c q : ℕ) → b ≡ f (Refused c q))
+  pub if_other : (b : A) → ((k : Key) → r ≡ Record k → ⊥) → ((n : ℕ) → b ≡ f (Gap n)) → ((c q : ℕ) → b ≡ f (Refused c q))
       → b ≡ f (piece_at s p)
   if_other b h g i = no_record (λ (r : Piece). b ≡ f r) r h g i ∙ ap f e.piece
 
@@ -44,7 +40,7 @@ record_lies s p e i = record_there_law s p (sym e.piece ∙ i)
 
 -- what is said where no record was read, and of a record
 module _ {A : Type 0} (bad : A) (f : Key → A) {x : Piece} where
-  pub on_other : {r : Piece} → r ≡ x → OneOf (1 ∷ 2 ∷ []) (tag_of the_type r) → bad ≡ on_record bad f x
+  pub on_other : {r : Piece} → r ≡ x → ((k : Key) → r ≡ Record k → ⊥) → bad ≡ on_record bad f x
   unfolding on_record
   on_other {r} e h = no_record (λ (r : Piece). bad ≡ on_record bad f r) r h (λ n. refl) (λ c q. refl) ∙ ap (on_record bad f) e
 

@@ -1,28 +1,24 @@
 -- A header with short strings is read as its numbers say.
-use Prim.Native.Nat.{ℕ, ◌+◌, ◌≤◌, ◌<◌}
-use mathlib.Core.Bool.{Bool, true, false}
+use Prim.Native.Nat.{ℕ, ◌+◌, ◌≤◌}
 use mathlib.Core.List.{List}
 use mathlib.Core.Path.{◌≡◌, refl, sym, ap, ◌∙◌}
 use native.Mathlib.Omega.{arith}
-use borrow.Author.Tests.{eqb-true}
-use lib.Dec.{eqb, ltb}
+use lib.Dec.{ltb}
 use lib.ListN.{length}
 use Rattle.wire.specs.Check.{All}
 use Rattle.wire.specs.Layout.{offset_width}
 use Rattle.wire.specs.Number.{num_at}
-use Rattle.wire.specs.Text.{text_size, text_in}
 use Rattle.wire.specs.declared.text.Text.{Text}
-use Rattle.wire.specs.declared.text.Found.TheVariants.{Held}
 use Rattle.wire.proofs.Layouts.{width_within}
 use Rattle.wire.proofs.Texts.{short_held}
 use Rattle.key.specs.Header.{fixed_part, width_at, key_at, sum_of, limits, well_formed, header_in}
-use Rattle.key.specs.Piece.{piece_at, sized}
+use Rattle.key.specs.Piece.{piece_at}
 use Rattle.key.specs.Short.{after_short, short_sum, Short}
 use Rattle.key.specs.declared.header.Key.{Key}
 use Rattle.key.specs.declared.header.Names.{Names}
 use Rattle.key.specs.declared.header.Header.TheVariants.{Good}
 use Rattle.key.specs.declared.piece.Piece.TheVariants.{Record}
-use Rattle.key.proofs.Headers.{Placed, placed, Strings, strings, good}
+use Rattle.key.proofs.Headers.{Placed, placed, strings, good}
 use Rattle.key.proofs.Names.{all_names}
 use Rattle.key.proofs.Pieces.{Numbered, record_there_law, size_plus}
 

@@ -1,5 +1,5 @@
 -- Headers whose strings are short, as the code tests them: by numbers at their places alone.
-use Rattle.std.specs.Prelude.{ℕ, ◌+◌, ◌<◌, ◌≤◌, Bool, true, List, ◌≡◌, length}
+use Rattle.std.specs.Prelude.{ℕ, ◌+◌, ◌<◌, ◌≤◌, Bool, true, List, ◌≡◌}
 use Rattle.wire.specs.Check.{All}
 use Rattle.wire.specs.Number.{num_at}
 use Rattle.key.specs.Header.{fixed_part, width_at, limits}

@@ -1,7 +1,6 @@
 // Key headers (document 000, and 003 for the wide form).
 ghost use Rattle.std.specs.Prelude.{◌≡◌, ◌+◌, ◌≤◌};
 ghost use Rattle.wire.specs.Layout.{offset_width};
-ghost use Rattle.wire.specs.Lent.{before};
 ghost use Rattle.wire.specs.Number.{num_at};
 ghost use Rattle.key.specs.Header.{fixed_part, bounded_sum, key_at, in_limits, header_in, names_in};
 
@@ -22,6 +21,7 @@ pub fn fixed_part(version: u32) -> usize
 }
 
 // The sum of a header with this Version and strings of these lengths, or 4294967296 where it is greater.
+#[tactic(auto, using(crate::proofs::Sums::past_sum, crate::proofs::Sums::whole_sum, wire::proofs::Texts::size_least), unfolding(wire::specs::Text::text_size))]
 pub fn sum_for(version: u32, class: usize, name: usize, title: usize) -> usize
     ensures { result ≡ bounded_sum version class name title }
 {
@@ -46,7 +46,7 @@ pub fn sum_for(version: u32, class: usize, name: usize, title: usize) -> usize
 }
 
 // The fields of a key header, and where its strings stand.
-#[derive(Drop)]
+#[derive(Clone, Copy)]
 pub struct Key {
     pub nbytes: u32,
     pub version: u32,
@@ -62,7 +62,7 @@ pub struct Key {
 }
 
 // The fields of a key header but KeyLen, which the writer works out.
-#[derive(Drop)]
+#[derive(Clone, Copy)]
 pub struct Fields {
     pub nbytes: u32,
     pub version: u32,
@@ -73,21 +73,21 @@ pub struct Fields {
     pub seekpdir: u64,
 }
 
-#[derive(Drop)]
+#[derive(Clone, Copy)]
 pub enum Header {
     Good(Key),
     Bad,
 }
 
 // The three strings of a header.
-#[derive(Drop)]
+#[derive(Clone, Copy)]
 pub struct Names {
     pub class: Text,
     pub name: Text,
     pub title: Text,
 }
 
-#[derive(Drop)]
+#[derive(Clone, Copy)]
 pub enum Named {
     Held(Names),
     Cut,
@@ -95,7 +95,7 @@ pub enum Named {
 
 // The strings that stand one after the other from a place on, if they end at or before end.
 fn read_names(s: &[u8], at: usize, end: usize) -> Named
-    ensures { result ≡ names_in (before s) at end }
+    ensures { result ≡ names_in s.now at end }
 {
     let Found::Held(class) = read_text(s, at, end) else {
         return Named::Cut;
@@ -114,7 +114,7 @@ fn read_names(s: &[u8], at: usize, end: usize) -> Named
 // The key at a place, with its Version and strings, which were read.
 fn read_key(s: &[u8], at: usize, version: u32, names: Names) -> Key
     requires { (version ≡ num_at 2 s.now (at + 4)) × (at + fixed_part (offset_width version) ≤ 18446744073709551615) }
-    ensures { result ≡ key_at (before s) at names }
+    ensures { result ≡ key_at s.now at names }
 {
     let class = names.class;
     let name = names.name;
@@ -165,7 +165,7 @@ pub fn is_formed(nbytes: u32, version: u32, objlen: u32, keylen: u32, sum: usize
 
 // The header at a place, read within the bytes before end: well formed, or bad; bad too where end is past the slice.
 pub fn read_header(s: &[u8], at: usize, end: usize) -> Header
-    ensures { result ≡ header_in (before s) at end }
+    ensures { result ≡ header_in s.now at end }
 {
     if s.len() < end {
         return Header::Bad;

@@ -1,13 +1,12 @@
 // Pieces: a record, a gap or a refusal at a place.
 ghost use Rattle.std.specs.Prelude.{◌≡◌, nat_abs};
-ghost use Rattle.wire.specs.Lent.{before};
 ghost use Rattle.wire.specs.Number.{signed_of};
 ghost use Rattle.key.specs.Writer.{Reads};
 
 use crate::header::{Header, Key, read_header};
 use wire::number::be32;
 
-#[derive(Drop)]
+#[derive(Clone, Copy)]
 pub enum Piece {
     Record(Key),
     Gap(u32),
@@ -28,7 +27,7 @@ fn size_for(n: u32) -> u32
 // The piece at any place of a file: a record with its fields and where its strings stand, a gap with its size, or 5 or 6 at the place. A
 // plain record, written with these, gives the KeyLen bytes that stand there.
 pub fn read_piece(file: &[u8], at: usize) -> Piece
-    ensures { Reads (before file) at result }
+    ensures { Reads file.now at result }
 {
     let end = file.len();
     if end <= at {

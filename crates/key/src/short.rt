@@ -1,6 +1,5 @@
 // Headers whose strings are short, tested without being taken apart.
 ghost use Rattle.std.specs.Prelude.{◌≡◌, ◌+◌, ◌≤◌, length};
-ghost use Rattle.wire.specs.Lent.{before};
 ghost use Rattle.wire.specs.Number.{num_at};
 ghost use Rattle.key.specs.Short.{SumsTo, Certain};
 
@@ -13,7 +12,7 @@ const MOST_SHORT: u32 = 280;
 // The sum of the header at a place, were the length of each string one byte; 0 where it is not there.
 fn short_sum(s: &[u8], at: usize, version: u32) -> usize
     requires { (version ≡ num_at 2 s.now (at + 4)) × (at + 34 ≤ length s.now) }
-    ensures { SumsTo (before s) at result }
+    ensures { SumsTo s.now at result }
 {
     let left = s.len() - at;
     let class = fixed_part(version);
@@ -33,7 +32,7 @@ fn short_sum(s: &[u8], at: usize, version: u32) -> usize
 
 // Whether a record with short strings stands at a place of a file. A yes is certain; a no says nothing.
 pub fn is_short(file: &[u8], at: usize) -> bool
-    ensures { Certain (before file) at result }
+    ensures { Certain file.now at result }
 {
     let end = file.len();
     if end < 34 {

@@ -12,7 +12,7 @@ use Rattle.wire.specs.declared.Answer.{Answer}
 use Rattle.wire.proofs.Answers.{same_answer}
 use Rattle.report.specs.Report.{report_of, Wrote}
 use Rattle.report.proofs.Reports.{wrote_within, wrote_all}
-use Rattle.wire.specs.Lent.{Lent, before, after}
+use Rattle.wire.specs.Lent.{Lent, MutLent, held, before, after}
 use Rattle.rules.specs.Free.{compared}
 use Rattle.rules.specs.Order.{verdict}
 use Rattle.audit.specs.Tables.{told, Audits}
@@ -51,12 +51,12 @@ module _ (s out : List ℕ) {out' : List ℕ} {r : Answer} where
 pub zeros : length (replicate {A = ℕ} room 0) ≡ room
 zeros = length-replicate {A = ℕ} room 0
 
-pub is_listed : {file start part owner : Lent} {a : Answer} → Audits file start part owner a
-    → length (before start) ≡ room → length (before part) ≡ room → length (before owner) ≡ room → length (before file) ≤ input_limit
+pub is_listed : {file : Lent} {start part owner : MutLent} {a : Answer} → Audits file start part owner a
+    → length (before start) ≡ room → length (before part) ≡ room → length (before owner) ≡ room → length (held file) ≤ input_limit
     → (out : List ℕ) {out' : List ℕ} {r : Answer}
-    → Wrote (report_of a (after start) (after part) (after owner) (length (before file))) out r out' → Lists (before file) out out' r
+    → Wrote (report_of a (after start) (after part) (after owner) (length (held file))) out r out' → Lists (held file) out out' r
 unfolding listing_of reported
 is_listed {file} {start} {part} {owner} {a} u e f g l out h =
-    let k : told file start part owner ≡ verdict compared (before file) room = ap (verdict compared (before file)) (rw (e, f, g)) in
-    lists (before file) out
-    (rw (le-leb (length (before file)) input_limit l, ← k, same_answer u.number u.place u.count, u.starts, u.parts, u.owners, e, f, g)) h
+    let k : told file start part owner ≡ verdict compared (held file) room = ap (verdict compared (held file)) (rw (e, f, g)) in
+    lists (held file) out
+    (rw (le-leb (length (held file)) input_limit l, ← k, same_answer u.number u.place u.count, u.starts, u.parts, u.owners, e, f, g)) h

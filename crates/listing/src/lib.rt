@@ -1,6 +1,7 @@
 // What the list program does with its input.
+#![tactic(auto)]
+
 ghost use Rattle.std.specs.Prelude.{◌≡◌, replicate};
-ghost use Rattle.wire.specs.Lent.{before, after};
 ghost use Rattle.listing.specs.Listing.{input_room, text_room, Lists};
 
 use audit::audit;
@@ -24,7 +25,7 @@ pub fn text_buffer() -> [u8; 73800]
 // Writes the list of a file's pieces, audited with tables of 1,024 rows, or that the input is too long, at the front of a buffer, and
 // counts its bytes. 17, and nothing is written, where the buffer cannot hold it.
 pub fn list(file: &[u8], out: &mut [u8]) -> Answer
-    ensures { Lists (before file) (before out) (after out) result }
+    ensures { Lists file.now out.old out.new result }
 {
     if 32768 < file.len() {
         return write_text(b"input too long\n", out);

@@ -1,8 +1,9 @@
 // What a record is: whether its key is plain and its data unpacked, and its class and name. Every public function takes any input
 // and has no precondition.
+#![tactic(auto)]
+
 ghost use Rattle.std.specs.Prelude.{◌≡◌};
 ghost use Rattle.wire.specs.Check.{all};
-ghost use Rattle.wire.specs.Lent.{before};
 ghost use Rattle.wire.specs.Name.{t_file, t_directory};
 ghost use Rattle.key.specs.Header.{plain, unpacked_data};
 ghost use Rattle.record.specs.Name.{same_bytes, named, plain_record, is_info};
@@ -39,7 +40,7 @@ pub fn is_plain_record(k: Key) -> bool
 
 // Whether the same n bytes stand at two places of a file.
 pub fn same_at(s: &[u8], a: usize, b: usize, n: usize) -> bool
-    ensures { result ≡ same_bytes (before s) a b n }
+    ensures { result ≡ same_bytes s.now a b n }
 {
     if s.len() < n {
         return false;
@@ -55,7 +56,7 @@ pub fn same_at(s: &[u8], a: usize, b: usize, n: usize) -> bool
 
 // Whether a string of a file is this one.
 fn is_name(s: &[u8], t: Text, name: &[u8]) -> bool
-    ensures { result ≡ named (before s) t (before name) }
+    ensures { result ≡ named s.now t name.now }
 {
     let start = t.start;
     let len = t.len;
@@ -70,21 +71,21 @@ fn is_name(s: &[u8], t: Text, name: &[u8]) -> bool
 
 // Whether a string of a file is TFile.
 pub fn is_file(s: &[u8], t: Text) -> bool
-    ensures { result ≡ named (before s) t t_file }
+    ensures { result ≡ named s.now t t_file }
 {
     is_name(s, t, b"TFile")
 }
 
 // Whether a string of a file is TDirectory.
 pub fn is_directory(s: &[u8], t: Text) -> bool
-    ensures { result ≡ named (before s) t t_directory }
+    ensures { result ≡ named s.now t t_directory }
 {
     is_name(s, t, b"TDirectory")
 }
 
 // Whether a key is plain, of class TList and named StreamerInfo.
 pub fn is_info_key(s: &[u8], k: Key) -> bool
-    ensures { result ≡ all (is_info (before s) k) }
+    ensures { result ≡ all (is_info s.now k) }
 {
     if !is_plain(k) {
         return false;

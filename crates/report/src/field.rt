@@ -1,13 +1,12 @@
 // Words and numbers, written into a buffer at a place that has room for them.
 ghost use Rattle.std.specs.Prelude.{[], ◌∷◌, ◌++◌};
-ghost use Rattle.wire.specs.Lent.{before, after};
 ghost use Rattle.report.specs.Put.{Room, Put};
 ghost use Rattle.report.specs.Report.{decimal};
 
 // Writes a text at a place: the place after it.
 pub(crate) fn put_text(out: &mut [u8], at: usize, text: &[u8]) -> usize
     requires { Room out.old at text.now }
-    ensures { Put (before out) at (before text) (after out) result }
+    ensures { Put out.old at text.now out.new result }
 {
     let mut i: usize = 0;
     while i < text.len() {
@@ -20,7 +19,7 @@ pub(crate) fn put_text(out: &mut [u8], at: usize, text: &[u8]) -> usize
 // Writes a number in decimal.
 fn put_number(out: &mut [u8], at: usize, v: u64) -> usize
     requires { Room out.old at (decimal v) }
-    ensures { Put (before out) at (decimal v) (after out) result }
+    ensures { Put out.old at (decimal v) out.new result }
 {
     if v < 10 {
         out[at] = 48 + v as u8;
@@ -34,7 +33,7 @@ fn put_number(out: &mut [u8], at: usize, v: u64) -> usize
 // Writes a number in decimal and the byte after it.
 pub(crate) fn put_field(out: &mut [u8], at: usize, v: u64, stop: u8) -> usize
     requires { Room out.old at (decimal v ++ stop ∷ []) }
-    ensures { Put (before out) at (decimal v ++ stop ∷ []) (after out) result }
+    ensures { Put out.old at (decimal v ++ stop ∷ []) out.new result }
 {
     let last = put_number(out, at, v);
     out[last] = stop;

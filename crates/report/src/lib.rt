@@ -1,6 +1,7 @@
 // The text of the list program: an audit's answer and tables in words.
+#![tactic(auto)]
+
 ghost use Rattle.std.specs.Prelude.{◌≡◌, length};
-ghost use Rattle.wire.specs.Lent.{before, after};
 ghost use Rattle.report.specs.Report.{heading, rows_of, report_of, Wrote};
 
 use field::put_text;
@@ -15,7 +16,7 @@ mod rows;
 
 // How many rows are listed.
 fn count_rows(a: Answer, start: &[u64], part: &[u64], owner: &[u64]) -> usize
-    ensures { result ≡ rows_of a (before start) (before part) (before owner) }
+    ensures { result ≡ rows_of a start.now part.now owner.now }
 {
     if a.number != 0 {
         return 0;
@@ -37,7 +38,7 @@ fn heading_length(a: Answer) -> usize
 // Writes a text at the front of a buffer, and counts its bytes. 17, and nothing is written, where the buffer cannot
 // hold it.
 pub fn write_text(text: &[u8], out: &mut [u8]) -> Answer
-    ensures { Wrote (before text) (before out) result (after out) }
+    ensures { Wrote text.now out.old result out.new }
 {
     if out.len() < text.len() {
         return refused(17, 0);
@@ -55,7 +56,7 @@ pub fn write_report(
     end: usize,
     out: &mut [u8],
 ) -> Answer
-    ensures { Wrote (report_of a (before start) (before part) (before owner) end) (before out) result (after out) }
+    ensures { Wrote (report_of a start.now part.now owner.now end) out.old result out.new }
 {
     let n = count_rows(a, start, part, owner);
     if lines_fit(start, part, owner, n, end, heading_length(a), out.len()) {

@@ -1,5 +1,4 @@
 // The lines of a report, written into a buffer at a place that has room for them.
-ghost use Rattle.wire.specs.Lent.{before, after};
 ghost use Rattle.report.specs.Put.{Room, Put};
 ghost use Rattle.report.specs.Report.{spaced, part_name, line, heading};
 
@@ -9,7 +8,7 @@ use wire::Answer;
 // Writes a part's name and a space.
 fn put_name(out: &mut [u8], at: usize, part: u64) -> usize
     requires { Room out.old at (spaced (part_name part)) }
-    ensures { Put (before out) at (spaced (part_name part)) (after out) result }
+    ensures { Put out.old at (spaced (part_name part)) out.new result }
 {
     if part < 1 {
         return put_text(out, at, b"gap ");
@@ -48,7 +47,7 @@ pub(crate) fn put_line(
     owner: u64,
 ) -> usize
     requires { Room out.old at (line place size part owner) }
-    ensures { Put (before out) at (line place size part owner) (after out) result }
+    ensures { Put out.old at (line place size part owner) out.new result }
 {
     let second = put_field(out, at, place, 32);
     let third = put_field(out, second, size, 32);
@@ -59,7 +58,7 @@ pub(crate) fn put_line(
 // Writes the first line, at the front.
 pub(crate) fn put_heading(out: &mut [u8], a: Answer) -> usize
     requires { Room out.old 0 (heading a) }
-    ensures { Put (before out) 0 (heading a) (after out) result }
+    ensures { Put out.old 0 (heading a) out.new result }
 {
     let number = a.number;
     let place = a.place;

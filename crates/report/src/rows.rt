@@ -1,6 +1,5 @@
 // The rows of three tables as lines.
 ghost use Rattle.std.specs.Prelude.{◌≡◌, ◌+◌, ◌-◌, ◌≤◌, ◌<◌, leb, length};
-ghost use Rattle.wire.specs.Lent.{before, after};
 ghost use Rattle.report.specs.Put.{Room, Put};
 ghost use Rattle.report.specs.Report.{next_place, row, lines};
 
@@ -16,9 +15,10 @@ fn difference(a: u64, b: u64) -> u64
 }
 
 // Where the piece of a row ends.
+#[tactic(auto, using(crate::proofs::Listed::ends_next, crate::proofs::Listed::ends_last))]
 fn next_place(start: &[u64], n: usize, end: usize, i: usize) -> u64
     requires { (i < n) × (n ≤ length start.now) }
-    ensures { result ≡ next_place (before start) n end i }
+    ensures { result ≡ next_place start.now n end i }
 {
     if i + 1 < n {
         return start[i + 1];
@@ -39,8 +39,8 @@ fn put_row(
 ) -> usize
     requires { (i < n) × (n ≤ length start.now) × (n ≤ length part.now) × (n ≤ length owner.now)
         × Room out.old at (row start.now part.now owner.now n end i) }
-    ensures { Put (before out) at (row (before start) (before part) (before owner) n end i)
-        (after out) result }
+    ensures { Put out.old at (row start.now part.now owner.now n end i)
+        out.new result }
 {
     let place = start[i];
     let size = difference(next_place(start, n, end, i), place);
@@ -50,7 +50,7 @@ fn put_row(
 // The length of the line of a row.
 fn row_length(start: &[u64], part: &[u64], owner: &[u64], n: usize, end: usize, i: usize) -> usize
     requires { (i < n) × (n ≤ length start.now) × (n ≤ length part.now) × (n ≤ length owner.now) }
-    ensures { result ≡ length (row (before start) (before part) (before owner) n end i) }
+    ensures { result ≡ length (row start.now part.now owner.now n end i) }
 {
     let mut space = [0u8; 72];
     put_row(&mut space, 0, start, part, owner, n, end, i)
@@ -67,7 +67,7 @@ pub(crate) fn lines_fit(
     room: usize,
 ) -> bool
     requires { (n ≤ length start.now) × (n ≤ length part.now) × (n ≤ length owner.now) }
-    ensures { result ≡ leb (first + length (lines (before start) (before part) (before owner) n end n)) room }
+    ensures { result ≡ leb (first + length (lines start.now part.now owner.now n end n)) room }
 {
     if room < first {
         return false;
@@ -97,8 +97,8 @@ pub(crate) fn put_lines(
 ) -> usize
     requires { (n ≤ length start.now) × (n ≤ length part.now) × (n ≤ length owner.now)
         × Room out.old first (lines start.now part.now owner.now n end n) }
-    ensures { Put (before out) first (lines (before start) (before part) (before owner) n end n)
-        (after out) result }
+    ensures { Put out.old first (lines start.now part.now owner.now n end n)
+        out.new result }
 {
     let mut at = first;
     let mut i: usize = 0;

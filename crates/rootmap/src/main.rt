@@ -1,9 +1,21 @@
 // Lists the pieces of the file on standard input.
-fn main() {
+#![tactic(auto)]
+
+use std::io;
+use std::io::{Read, Write};
+
+fn main(rt: HostRuntime) -> io::Result<()> {
     let mut input = listing::input_buffer();
-    let n = io::read_full(0, &mut input);
+    let mut n = 0;
+    while n < input.len() {
+        let read = rt.stdin().read(&mut input[n..])?;
+        if read == 0 {
+            break;
+        }
+        n += read;
+    }
     let mut out = listing::text_buffer();
     let r = listing::list(&input[..n], &mut out);
     let count = r.count as usize;
-    io::write_all(1, &out[..count]);
+    rt.stdout().write_all(&out[..count])
 }

@@ -1,11 +1,12 @@
 // The starts of a partition as a table of rows, searched by place. Every public function takes any input and has no
 // precondition; where it matters, the promise is for a table that rises.
-ghost use Rattle.wire.specs.Lent.{before};
+#![tactic(auto)]
+
 ghost use Rattle.rows.specs.Row.{RowOf};
 
 pub mod lists;
 
-#[derive(Drop)]
+#[derive(Clone, Copy)]
 pub enum Row {
     At(usize),
     Nothing,
@@ -13,7 +14,7 @@ pub enum Row {
 
 // The row whose start is the place; where the starts rise, none only if there is none.
 pub fn find_row(start: &[u64], place: usize) -> Row
-    ensures { RowOf (before start) place result }
+    ensures { RowOf start.now place result }
 {
     let mut lo: usize = 0;
     let mut hi = start.len();
@@ -34,7 +35,7 @@ pub fn find_row(start: &[u64], place: usize) -> Row
 
 // The same, whichever row is looked at first.
 pub fn seek_row(start: &[u64], place: usize, near: usize) -> Row
-    ensures { RowOf (before start) place result }
+    ensures { RowOf start.now place result }
 {
     if near < start.len() {
         if start[near] as usize == place {

@@ -1,7 +1,6 @@
 // What is known of the rows before the directories: the gaps and the info record.
 ghost use Rattle.std.specs.Prelude.{◌≡◌};
 ghost use Rattle.wire.specs.Check.{all, nothing};
-ghost use Rattle.wire.specs.Lent.{before};
 ghost use Rattle.key.specs.Piece.{piece_at};
 ghost use Rattle.rules.specs.Free.{info_holds};
 ghost use Rattle.rules.specs.Turn.{first_part};
@@ -16,7 +15,7 @@ use wire::number::be32;
 
 // The size of the gap at a place, 0 where no gap stands.
 pub fn gap_size(file: &[u8], at: usize) -> usize
-    ensures { result ≡ gap_of (piece_at (before file) at) }
+    ensures { result ≡ gap_of (piece_at file.now at) }
 {
     if be32(file, at) < 2147483648 {
         return 0;
@@ -30,7 +29,7 @@ pub fn gap_size(file: &[u8], at: usize) -> usize
 
 // The part of a piece before the first directory is taken; the head, found and not done, has its part plus 8.
 pub fn part_at(file: &[u8], place: u64, head: FileHead) -> u64
-    ensures { result ≡ first_part (before file) head place }
+    ensures { result ≡ first_part file.now head place }
 {
     if place == 100 {
         return 9;
@@ -59,7 +58,7 @@ pub fn is_nothing(seek: u64, nbytes: u32) -> bool
 
 // Whether the info rule holds, for starts that rise.
 pub fn check_info(file: &[u8], start: &[u64], head: FileHead) -> bool
-    ensures { Rises (before start) → result ≡ info_holds (before file) (before start) head }
+    ensures { Rises start.now → result ≡ info_holds file.now start.now head }
 {
     let seek = head.seekinfo;
     let nbytes = head.nbytesinfo;

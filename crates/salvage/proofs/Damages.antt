@@ -5,7 +5,7 @@ use mathlib.Core.List.{List, [], ◌∷◌, ◌++◌}
 use mathlib.Core.Logic.{◌⊎◌, inl, inr, ⊎_elim}
 use mathlib.Core.Path.{◌≡◌, refl, sym, ap, ◌∙◌, subst}
 use native.Mathlib.Omega.{arith}
-use borrow.Author.Tests.{lt-ltb, le-ltb, ltb-true, ltb-false}
+use borrow.Author.Tests.{lt-ltb, le-ltb, ltb-false}
 use lib.Dec.{ltb}
 use lib.ListN.{length}
 use Rattle.wire.specs.Answer.{refusal}
@@ -15,9 +15,7 @@ use Rattle.wire.specs.declared.Answer.{Answer}
 use Rattle.wire.proofs.Agrees as agree
 use Rattle.wire.proofs.Checks.{false_true, below_or}
 use Rattle.key.specs.Piece.{piece_at, size_of}
-use Rattle.key.specs.declared.piece.Piece.TheVariants as piece
-use Rattle.key.proofs.Pieces.{size_fits}
-use Rattle.fileheader.specs.File.{opened_as, open_answer}
+use Rattle.fileheader.specs.File.{opened_as}
 use Rattle.fileheader.specs.declared.FileHead.{FileHead}
 use Rattle.fileheader.specs.declared.Opened.TheVariants as opened
 use Rattle.fileheader.proofs.Agrees.{opened_same}
@@ -70,8 +68,8 @@ one_fault : {s : List ℕ} {p q : ℕ} → Fault s p → Fault s q → p ≡ q
 one_fault {s} {p} {q} f g = one_stop s 100 f.pieces g.pieces p q f.chain g.chain (no_size f) (no_size g)
 
 -- a place that is reached lies in the file
-within : {s : List ℕ} {q : ℕ} → Reaches s q → q ≤ length s
-within {s} {q} r = forward s q r.0 (length s) r.1
+within : (s : List ℕ) {q : ℕ} → Reaches s q → q ≤ length s
+within s {q} r = forward s q r.0 (length s) r.1
 
 one_lowest : {s : List ℕ} {p q r : ℕ} → Lowest s p q → Lowest s p r → q ≡ r
 one_lowest {s} {p} {q} {r} f g =
@@ -81,7 +79,7 @@ one_lowest {s} {p} {q} {r} f g =
     (below_or q r)
 
 no_tail : {A : Type 0} {s : List ℕ} {p q r : ℕ} → Fault s p → length s < p + 4 → Fault s q → Lowest s (q + 4) r → A
-no_tail f l g h = let e = one_fault f g in let k = within h.fills in absurd (omega (arith, h.least))
+no_tail {s = s} f l g h = let e = one_fault f g in let k = within s h.fills in absurd (omega (arith, h.least))
 
 pub one_damage : (s : List ℕ) (d e : Damage) → Damaged s d → Damaged s e → d ≡ e
 one_damage s (damage.header c) (damage.header d) h k = ap damage.header (same_number s h k)
@@ -228,7 +226,7 @@ module _ {s : List ℕ} {a : Answer} where
 
   module _ (k : Hole s a) where
     pub hole_fits : a.place + 4 ≤ length s
-    hole_fits = omega (arith, k.low.least, within k.low.fills)
+    hole_fits = omega (arith, k.low.least, within s k.low.fills)
 
     pub hole_wide : 4 ≤ a.count - a.place
     hole_wide = omega (arith, k.low.least)
@@ -249,7 +247,7 @@ module _ {s : List ℕ} {a : Answer} where
         let t = filled_with s a in
         let r = k.low.fills in
         let e = written_length s p hole_fits (q - p) in
-        let g = gap_written s p hole_fits (q - p) hole_wide k.small (omega (arith, k.low.least, within r)) in
+        let g = gap_written s p hole_fits (q - p) hole_wide k.small (omega (arith, k.low.least, within s r)) in
         let z : size_of (piece_at t p) ≡ q - p = ap size_of g in
         let to : p + size_of (piece_at t p) ≡ q = omega (arith, k.low.least) in
         let x = partition_kept 100 p k.fault.pieces k.fault.chain (before_same s p hole_fits (q - p) 100) in

@@ -3,7 +3,7 @@
 use Rattle.std.specs.Prelude.{ℕ, ◌+◌, ◌-◌, ◌<◌, ◌≤◌, List, ◌⊎◌, ◌≡◌, ltb, length, replicate}
 use Rattle.wire.specs.Check.{pick}
 use Rattle.wire.specs.Answer.{refusal}
-use Rattle.wire.specs.Lent.{Lent, before, after}
+use Rattle.wire.specs.Lent.{MutLent, before, after}
 use Rattle.wire.specs.Number.{be_bytes}
 use Rattle.wire.specs.Patch.{patch}
 use Rattle.wire.specs.declared.Answer.{Answer}
@@ -94,6 +94,6 @@ pub record Mends (s s' : List ℕ) (r : Answer) : Type 0 where
   pub audited : r.number ≡ 0 → (mode : Mode) (room : ℕ) → (number_of (verdict mode s' room) ≡ 0) ⊎ (7 ≤ number_of (verdict mode s' room))
 
 -- and of the lent table of marks: whatever it held and however long it is, it changes no answer, and is all zeros afterwards
-pub record Salvages (buf seen : Lent) (r : Answer) : Type 0 where
+pub record Salvages (buf seen : MutLent) (r : Answer) : Type 0 where
   pub mends : Mends (before buf) (after buf) r
   pub cleared : after seen ≡ replicate (length (before seen)) 0

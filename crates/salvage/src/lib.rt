@@ -1,7 +1,8 @@
 // Salvage: a gap is written over the break of a chain, up to the lowest place from which pieces fill the file to its end. The public
 // function takes any input and has no precondition.
+#![tactic(auto)]
+
 ghost use Rattle.std.specs.Prelude.{◌≡◌, ◌+◌, ◌<◌, ◌≤◌, length};
-ghost use Rattle.wire.specs.Lent.{before, after};
 ghost use Rattle.wire.specs.Patch.{patch};
 ghost use Rattle.salvage.specs.Mark.{Unmarked, Marks, Dead, Tried, Passed, Bounds, Sought, Finds};
 ghost use Rattle.salvage.specs.Salvage.{gap_bytes, most_gap, Mends, Salvages};
@@ -14,7 +15,7 @@ use wire::{Answer, refused};
 
 // Marks a place, and tells whether it was marked. Past the table no place is.
 fn mark(seen: &mut [u8], i: usize) -> bool
-    ensures { Marks (before seen) (after seen) i result }
+    ensures { Marks seen.old seen.new i result }
 {
     let byte = i / 8;
     if seen.len() <= byte {
@@ -32,7 +33,7 @@ fn mark(seen: &mut [u8], i: usize) -> bool
 // Whether pieces fill the file from a place to its end. The pieces on the way are marked; where they do not, none that is marked does.
 fn reach(file: &[u8], seen: &mut [u8], base: usize, from: usize) -> bool
     requires { Dead file.now base seen.old × (base ≤ from) × (from ≤ length file.now) }
-    ensures { Tried (before file) base from (after seen) result }
+    ensures { Tried file.now base from seen.new result }
 {
     let mut next = from;
     while next < file.len() {
@@ -51,7 +52,7 @@ fn reach(file: &[u8], seen: &mut [u8], base: usize, from: usize) -> bool
 // A file may have gigabytes of them.
 fn past_zeros(file: &[u8], from: usize, stop: usize) -> usize
     requires { (from < stop) × (stop ≤ length file.now) }
-    ensures { Passed (before file) from stop result }
+    ensures { Passed file.now from stop result }
 {
     let mut q = from;
     while 8 <= stop - q {
@@ -66,7 +67,7 @@ fn past_zeros(file: &[u8], from: usize, stop: usize) -> usize
 // The lowest place from base on, and before stop, from which pieces fill the file to its end; stop where there is none.
 fn lowest(file: &[u8], seen: &mut [u8], base: usize, stop: usize) -> usize
     requires { Dead file.now base seen.old × (base ≤ stop) × (stop ≤ length file.now) }
-    ensures { Sought (before file) base stop result }
+    ensures { Sought file.now base stop result }
 {
     let mut q = base;
     while q < stop {
@@ -93,7 +94,7 @@ fn end_tries(p: usize, end: usize) -> usize
 // What is wrong with the chain of a file, as it is answered.
 fn find(file: &[u8], seen: &mut [u8]) -> Answer
     requires { Unmarked seen.old }
-    ensures { Finds (before file) result }
+    ensures { Finds file.now result }
 {
     match open(file) {
         Opened::Good(_) => (),
@@ -126,7 +127,7 @@ fn find(file: &[u8], seen: &mut [u8]) -> Answer
 // Writes the four bytes of a gap.
 fn put_gap(buf: &mut [u8], at: usize, size: usize)
     requires { (at + 4 ≤ length buf.old) × (4 ≤ size) × (size ≤ most_gap) }
-    ensures { after buf ≡ patch (before buf) at (gap_bytes size) }
+    ensures { buf.new ≡ patch buf.old at (gap_bytes size) }
 {
     let n = 4294967296 - size;
     buf[at] = (n / 16777216) as u8;
@@ -138,7 +139,7 @@ fn put_gap(buf: &mut [u8], at: usize, size: usize)
 // Mends what was found.
 fn mend(buf: &mut [u8], a: Answer)
     requires { Finds buf.old a }
-    ensures { Mends (before buf) (after buf) a }
+    ensures { Mends buf.old buf.new a }
 {
     if a.number != 0 {
         return;

@@ -4,7 +4,7 @@ use mathlib.Core.List.{List, []}
 use mathlib.Core.Path.{◌≡◌, refl, ap}
 use native.Mathlib.Omega.{arith}
 use lib.ListN.{length, set}
-use Rattle.wire.specs.Lent.{Lent, before, after}
+use Rattle.wire.specs.Lent.{Lent, MutLent, held, before, after}
 use Rattle.wire.specs.declared.Answer.{Answer}
 use Rattle.wire.proofs.Checks.{picked}
 use Rattle.infofield.specs.Field.{and_then, versioned}
@@ -145,6 +145,6 @@ looks s p =
     (on_objects {rec = p} (info_list_at s p) (λ n.
     on_onward _ _ (on_times _ _ (list_object_both s p n) _ n.from n.count (none_stand s p 12)))).same
 
-pub informs : {file table : Lent} {at : ℕ} {r : Answer} → (r ≡ info_answer (before file) at (length (before table)))
-    × (after table ≡ info_table (before file) at (length (before table))) → Informs file at table r
+pub informs : {file : Lent} {table : MutLent} {at : ℕ} {r : Answer} → (r ≡ info_answer (held file) at (length (before table)))
+    × (after table ≡ info_table (held file) at (length (before table))) → Informs file at table r
 informs h = record { answer = h.0; rows = h.1; tags = looks _ _ }

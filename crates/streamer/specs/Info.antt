@@ -2,7 +2,7 @@
 use Rattle.std.specs.Prelude.{ℕ, ◌/◌, ◌≡◌, List, [], length, set, replicate, leb}
 use Rattle.wire.specs.Answer.{done, refusal}
 use Rattle.wire.specs.Check.{pick}
-use Rattle.wire.specs.Lent.{Lent, before, after}
+use Rattle.wire.specs.Lent.{Lent, MutLent, held, before, after}
 use Rattle.wire.specs.declared.Answer.{Answer}
 use Rattle.table.specs.Table.{filled}
 use Rattle.infofield.specs.Field.{versioned}
@@ -67,7 +67,7 @@ info_table s p n = filled (flat (shown (info_at once s p) n)) n
 
 -- what the reader of the record at a place promises: its answer, the table, and that every class that an object is taken as stands in the
 -- record, at its tag or where its tag refers to: a reader that looks each tag up there once more reads the same
-pub record Informs (file : Lent) (at : ℕ) (table : Lent) (r : Answer) : Type 0 where
-  pub answer : r ≡ info_answer (before file) at (length (before table))
-  pub rows : after table ≡ info_table (before file) at (length (before table))
-  pub tags : info_at once (before file) at ≡ info_at (twice at) (before file) at
+pub record Informs (file : Lent) (at : ℕ) (table : MutLent) (r : Answer) : Type 0 where
+  pub answer : r ≡ info_answer (held file) at (length (before table))
+  pub rows : after table ≡ info_table (held file) at (length (before table))
+  pub tags : info_at once (held file) at ≡ info_at (twice at) (held file) at

@@ -1,6 +1,6 @@
 -- Runs as private functions promise them: only they and proofs use what stands here.
 use Rattle.std.specs.Prelude.{ℕ, ◌+◌, ◌<◌, ◌≤◌, List, ◌≡◌, length}
-use Rattle.wire.specs.Lent.{Lent, before, after}
+use Rattle.wire.specs.Lent.{MutLent, before, after}
 use Rattle.infofield.specs.Field.{and_then, ended_at}
 use Rattle.infofield.specs.declared.field.Step.{Step}
 use Rattle.inforow.specs.Row.{put_rows}
@@ -25,7 +25,7 @@ Grown n k (Next q m) = m ≤ n + k
 Grown n k (Wrong d q) = Unit
 
 -- a run from n rows on, of at most k rows, with the tags and the table that were lent
-abbrev pub Runs : Run → Lent → Lent → ℕ → ℕ → Rows → Type 0
+abbrev pub Runs : Run → MutLent → MutLent → ℕ → ℕ → Rows → Type 0
 Runs run tags table n k r = Ran run (before table) n r (after tags) (after table) × Grown n k r
 
 -- a run where the tags are not asked for and the table had no rows yet

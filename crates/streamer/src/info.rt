@@ -1,6 +1,5 @@
 // The objects of a StreamerInfo record (document 002).
 ghost use Rattle.std.specs.Prelude.{◌≡◌, ◌+◌, ◌≤◌};
-ghost use Rattle.wire.specs.Lent.{before, after};
 ghost use Rattle.infotag.specs.Stand.{once};
 ghost use Rattle.streamer.specs.Row.{times, element_at};
 ghost use Rattle.streamer.specs.Info.{array_at, class_at, list_object_at, info_at};
@@ -22,7 +21,7 @@ fn elements(
     rows: usize,
 ) -> Rows
     requires { Within owner.rec list.end rows 4294967295 }
-    ensures { Runs (times (λ i. element_at once (before file) owner list.end) (before tags) list.from list.count)
+    ensures { Runs (times (λ i. element_at once file.now owner list.end) tags.old list.from list.count)
         tags table rows 4294967295 result }
 {
     let count = list.count;
@@ -65,7 +64,7 @@ fn array(
     n: usize,
 ) -> Rows
     requires { Within owner.rec o.end n 4294967295 }
-    ensures { Runs (array_at once (before file) owner o.end (before tags) o.at)
+    ensures { Runs (array_at once file.now owner o.end tags.old o.at)
         tags table n 4294967295 result }
 {
     let start = match read_head(file, owner.rec, o.at, o.end, 1, 1, &*tags) {
@@ -98,7 +97,7 @@ fn class(
     n: usize,
 ) -> Rows
     requires { Within owner.rec o.end n 4294967295 }
-    ensures { Runs (class_at once (before file) owner o.end (before tags) o.at)
+    ensures { Runs (class_at once file.now owner o.end tags.old o.at)
         tags table n 4294967295 result }
 {
     let start = match read_head(file, owner.rec, o.at, o.end, 0, 0, &*tags) {
@@ -133,7 +132,7 @@ fn list_object(
     n: usize,
 ) -> Rows
     requires { Within owner.rec list.end n 4294967295 }
-    ensures { Runs (list_object_at once (before file) owner.rec list owner.class (before tags) at)
+    ensures { Runs (list_object_at once file.now owner.rec list owner.class tags.old at)
         tags table n 4294967295 result }
 {
     let end = list.end;
@@ -156,8 +155,8 @@ fn list_objects(
     table: &mut [u32],
 ) -> Rows
     requires { list.end ≤ rec + 2147483647 }
-    ensures { Ran (times (list_object_at once (before file) rec list) (before tags) list.from list.count)
-        (before table) 0 result (after tags) (after table) }
+    ensures { Ran (times (list_object_at once file.now rec list) tags.old list.from list.count)
+        table.old 0 result tags.new table.new }
 {
     let count = list.count;
     let mut at = list.from;
@@ -178,7 +177,7 @@ fn list_objects(
 
 // The rows of the record at a place.
 pub(crate) fn read_record(file: &[u8], at: usize, table: &mut [u32]) -> Rows
-    ensures { Ended (info_at once (before file) at) (before table) result (after table) }
+    ensures { Ended (info_at once file.now at) table.old result table.new }
 {
     let list = match read_list(file, at) {
         Collection::Held(list) => list,

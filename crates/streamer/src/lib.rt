@@ -1,5 +1,7 @@
 // The StreamerInfo record of a ROOT file: the reader of an unpacked record, a row for every element.
 // Every public function takes any input and has no precondition.
+#![tactic(auto)]
+
 mod info;
 mod row;
 

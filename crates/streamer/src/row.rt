@@ -1,6 +1,5 @@
 // The elements of a class, and the row of each.
 ghost use Rattle.std.specs.Prelude.{◌≡◌, ◌+◌, ◌≤◌};
-ghost use Rattle.wire.specs.Lent.{before};
 ghost use Rattle.infotag.specs.Stand.{once};
 ghost use Rattle.streamer.specs.Row.{row_of, element_at};
 ghost use Rattle.streamer.specs.Runs.{Within, Runs};
@@ -11,21 +10,21 @@ use inforow::{Row, put_row};
 use infotag::tag::{Head, read_head};
 
 // Whose elements are read: the place of the record, and the index of the class.
-#[derive(Drop)]
+#[derive(Clone, Copy)]
 pub struct Owner {
     pub rec: usize,
     pub class: u32,
 }
 
 // Where an object starts, and the innermost open end.
-#[derive(Drop)]
+#[derive(Clone, Copy)]
 pub struct Span {
     pub at: usize,
     pub end: usize,
 }
 
 // The place after what was read and the number of rows so far, or the first fault.
-#[derive(Drop)]
+#[derive(Clone, Copy)]
 pub enum Rows {
     Next(usize, usize),
     Wrong(u32, usize),
@@ -57,7 +56,7 @@ pub(crate) fn element(
     n: usize,
 ) -> Rows
     requires { Within owner.rec o.end n 1 }
-    ensures { Runs (element_at once (before file) owner o.end (before tags) o.at) tags table n 1 result }
+    ensures { Runs (element_at once file.now owner o.end tags.old o.at) tags table n 1 result }
 {
     let start = match read_head(file, owner.rec, o.at, o.end, 2, 11, &*tags) {
         Head::Known(start) => start,

@@ -62,7 +62,7 @@ module _ (f : ℕ → Row) (xs : List Row) where
       ap (λ (k : ℕ). up_to f k ++ drop k xs) e ∙ ap (λ (r : List Row). up_to f (length xs) ++ r) (drop-length xs)
       ∙ append-nil (up_to f (length xs))
 
-  length_over : (i : ℕ) → i ≤ length xs → length (over f xs i) ≡ length xs
+  pub length_over : (i : ℕ) → i ≤ length xs → length (over f xs i) ≡ length xs
   unfolding over
   length_over i h = length-append (up_to f i) (drop i xs) ∙ omega (arith, length_up_to f i, length-drop i xs, h)
 

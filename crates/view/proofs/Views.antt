@@ -1,12 +1,12 @@
 -- The list against the rows of a verdict.
-use Prim.Native.Nat.{ℕ, zero, suc, ◌+◌, ◌-◌, ◌<◌, ◌≤◌}
+use Prim.Native.Nat.{ℕ, zero, suc, ◌-◌, ◌<◌, ◌≤◌}
 use mathlib.Core.List.{List, [], ◌∷◌, ◌++◌}
 use mathlib.Core.Logic.{⊎_elim}
 use mathlib.Core.Path.{◌≡◌, refl, sym, ap, ◌∙◌}
 use native.Mathlib.Omega.{arith}
 use lib.ListN.{length, get_or, replicate, length-append, length-replicate, get_or-append}
 use lib.Seq.{ext_get_or, get_or-append_seam}
-use Rattle.wire.specs.Lent.{Lent, LentOf, before, after}
+use Rattle.wire.specs.Lent.{Lent, MutLent, MutLentOf, held, before, after}
 use Rattle.wire.specs.declared.Answer.{Answer}
 use Rattle.wire.proofs.Checks.{below_or}
 use Rattle.wire.proofs.Numbers.{lesser_within}
@@ -140,13 +140,13 @@ module _ (s : List ℕ) (room m : ℕ) (l : room ≤ m) (d : Demand compared s r
   told_list = told_rows (verdict compared s room) refl
 
 -- what the audit and the list promise together
-pub views : {file start part owner : Lent} {list : LentOf Row} {r : Answer} → AuditsWithin compared (length (before list)) file start part owner r
-    → after list ≡ up_to (row_at (before file) (after start) (after part) (after owner)) (length (before list))
+pub views : {file : Lent} {start part owner : MutLent} {list : MutLentOf Row} {r : Answer} → AuditsWithin compared (length (before list)) file start part owner r
+    → after list ≡ up_to (row_at (held file) (after start) (after part) (after owner)) (length (before list))
     → Views file start part owner list r
 views {file} {list = list} k e = record {
   audits = k;
   shown = e
       ∙ rw (k.starts, k.parts, k.owners)
-      (told_list (before file) _ (length (before list)) (lesser_within (length (before list)) _).0 k.demand _ _ _);
+      (told_list (held file) _ (length (before list)) (lesser_within (length (before list)) _).0 k.demand _ _ _);
   same = e;
 }

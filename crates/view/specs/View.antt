@@ -2,7 +2,7 @@
 -- order, unused records all zero; its length counts for room too".
 use Rattle.std.specs.Prelude.{ℕ, zero, suc, List, [], ◌∷◌, ◌++◌, ◌≡◌, eqb, length, get_or}
 use Rattle.wire.specs.Check.{pick}
-use Rattle.wire.specs.Lent.{Lent, LentOf, before, after}
+use Rattle.wire.specs.Lent.{Lent, MutLent, MutLentOf, held, before, after}
 use Rattle.wire.specs.declared.Answer.{Answer}
 use Rattle.key.specs.Piece.{size_at, piece_at, size_of}
 use Rattle.table.specs.Table.{filled_with}
@@ -40,11 +40,11 @@ up_to f (suc m) = up_to f m ++ (f m ∷ [])
 
 -- what the view promises: all that the audit does, with the list's length for room too; the list holds the rows of the verdict, then
 -- "unused records all zero" to its own end; and it shows what the tables hold
-module _ (file start part owner : Lent) (list : LentOf Row) where
+module _ (file : Lent) (start part owner : MutLent) (list : MutLentOf Row) where
   abbrev pub entries : ℕ
   entries = length (before list)
 
   pub record Views (r : Answer) : Type 0 where
     pub audits : AuditsWithin compared entries file start part owner r
-    pub shown : after list ≡ filled_with no_row (rows_of (before file) (told_within compared entries file start part owner)) entries
-    pub same : after list ≡ up_to (row_at (before file) (after start) (after part) (after owner)) entries
+    pub shown : after list ≡ filled_with no_row (rows_of (held file) (told_within compared entries file start part owner)) entries
+    pub same : after list ≡ up_to (row_at (held file) (after start) (after part) (after owner)) entries

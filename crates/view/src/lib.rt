@@ -1,13 +1,14 @@
 // The viewer's list: the rows of the tables as records, each with the size of its piece.
+#![tactic(auto)]
+
 ghost use Rattle.std.specs.Prelude.{◌≡◌, length, get_or};
-ghost use Rattle.wire.specs.Lent.{before, after};
 ghost use Rattle.view.specs.View.{size_in, row_at, up_to};
 
 use wire::number::be32;
 
 // Start, size, part and owner of a piece; a record that shows none is all zero.
 #[repr(C)]
-#[derive(Drop)]
+#[derive(Clone, Copy)]
 pub struct Row {
     pub start: u64,
     pub size: u64,
@@ -17,7 +18,7 @@ pub struct Row {
 
 // An entry of a table; 0 past its end.
 fn entry(t: &[u64], i: usize) -> u64
-    ensures { result ≡ get_or (before t) i 0 }
+    ensures { result ≡ get_or t.now i 0 }
 {
     if i < t.len() {
         return t[i];
@@ -27,7 +28,7 @@ fn entry(t: &[u64], i: usize) -> u64
 
 // The size of the piece that starts at a place, as its bytes give it; 0 at 0, where none starts.
 fn size_in(file: &[u8], at: u64) -> u64
-    ensures { result ≡ size_in (before file) at }
+    ensures { result ≡ size_in file.now at }
 {
     if at == 0 {
         return 0;
@@ -47,7 +48,7 @@ fn row_at<'f, 'a>(
     owner: &'a [u64],
     i: usize,
 ) -> Row
-    ensures { result ≡ row_at (before file) (before start) (before part) (before owner) i }
+    ensures { result ≡ row_at file.now start.now part.now owner.now i }
 {
     let at = entry(start, i);
     let size = size_in(file, at);
@@ -70,7 +71,7 @@ pub fn show<'f, 'a, 'b>(
     owner: &'a [u64],
     list: &'b mut [Row],
 )
-    ensures { after list ≡ up_to (row_at (before file) (before start) (before part) (before owner)) (length (before list)) }
+    ensures { list.new ≡ up_to (row_at file.now start.now part.now owner.now) (length list.old) }
 {
     let mut i: usize = 0;
     while i < list.len() {

@@ -5,7 +5,7 @@ use mathlib.Core.Logic.{◌⊎◌, inl, inr, ⊎_elim}
 use mathlib.Core.Path.{◌≡◌, refl, sym, ap, ◌∙◌}
 use native.Mathlib.Omega.{arith}
 use lib.Dec.{leb}
-use lib.ListN.{length, get_or, set, length-set, length_map, get_or-map, get_or-eq_default}
+use lib.ListN.{length, get_or, set, length-set, length-map, get_or-map, get_or-eq_default}
 use lib.Seq.{get_or-set_same, get_or-set_other, map-set_same, ext_get_or}
 use borrow.Author.Tests.{le-leb, lt-leb, lt-ltb, le-ltb}
 use Rattle.wire.proofs.Checks.{below_or}
@@ -33,7 +33,7 @@ pub part_at : (p : List ℕ) (i : ℕ) → get_or (parts_in p) i 0 ≡ get_or p 
 part_at p i = get_or-map part_in p i 0
 
 pub parts_size : (p : List ℕ) → length (parts_in p) ≡ length p
-parts_size p = length_map p part_in
+parts_size p = length-map p part_in
 
 pub parts_set : (p : List ℕ) (i x : ℕ) → parts_in (set p i x) ≡ set (parts_in p) i (x % 16)
 parts_set [] i x = refl

@@ -2,7 +2,7 @@
 -- their number". They wait in the part table itself: an entry there is the part of its row and, in the bits above, a node of a tree over all rows.
 use Rattle.std.specs.Prelude.{ℕ, ◌+◌, ◌-◌, ◌*◌, ◌/◌, ◌%◌, ◌<◌, ◌≤◌, List, [], ◌∷◌, map, ◌≡◌, leb, ltb, length, get_or, set}
 use Rattle.wire.specs.Check.{pick}
-use Rattle.wire.specs.Lent.{Lent, before, after}
+use Rattle.wire.specs.Lent.{Lent, MutLent, held, before, after}
 use Rattle.rules.specs.Part.{dir}
 use Rattle.rules.specs.Turn.{mark, found, next_row}
 use Rattle.waiting.specs.declared.Waiting.{Waiting}
@@ -53,7 +53,7 @@ pub record Keeps (qs p : List ℕ) (w : Waiting) : Type 0 where
   pub number : w.number ≡ waiting_number (parts_in p)
 
 -- a row is given a part without the mark, and its node stays; what was kept for a row that did not wait is kept
-pub record Gives (part : Lent) (row new : ℕ) : Type 0 where
+pub record Gives (part : MutLent) (row new : ℕ) : Type 0 where
   pub entry : after part ≡ set (before part) row (get_or (before part) row 0 / 16 * 16 + new % mark)
   pub given : parts_in (after part) ≡ set (parts_in (before part)) row (new % mark)
   pub kept : {qs : List ℕ} {w : Waiting} → Keeps qs (before part) w → row < length (before part) → part_in (get_or (before part) row 0) < mark
@@ -61,12 +61,12 @@ pub record Gives (part : Lent) (row new : ℕ) : Type 0 where
 
 -- a directory is found in a row, or is done there: its part gets the mark, or loses it; what was kept is kept, where it did not wait and
 -- where it did. Else the nodes at exit and what is told are free
-pub record Finds (start part : Lent) (row : ℕ) (w r : Waiting) : Type 0 where
+pub record Finds (start : Lent) (part : MutLent) (row : ℕ) (w r : Waiting) : Type 0 where
   pub marked : parts_in (after part) ≡ set (parts_in (before part)) row (found (get_or (parts_in (before part)) row 0 % mark))
-  pub kept : Keeps (before start) (before part) w → row < length (before part) → part_in (get_or (before part) row 0) ≤ dir
-      → Keeps (before start) (after part) r
+  pub kept : Keeps (held start) (before part) w → row < length (before part) → part_in (get_or (before part) row 0) ≤ dir
+      → Keeps (held start) (after part) r
 
-pub record Settles (start part : Lent) (row : ℕ) (w r : Waiting) : Type 0 where
+pub record Settles (start : Lent) (part : MutLent) (row : ℕ) (w r : Waiting) : Type 0 where
   pub settled : parts_in (after part) ≡ set (parts_in (before part)) row (get_or (parts_in (before part)) row 0 % mark)
-  pub kept : Keeps (before start) (before part) w → row < length (before part) → mark ≤ part_in (get_or (before part) row 0)
-      → Keeps (before start) (after part) r
+  pub kept : Keeps (held start) (before part) w → row < length (before part) → mark ≤ part_in (get_or (before part) row 0)
+      → Keeps (held start) (after part) r

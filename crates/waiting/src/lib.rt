@@ -1,15 +1,16 @@
 // The directories found and not done: the lowest of them and how many, kept by value beside the tables. Which row comes next is told by a
 // tree of greatest nodes in the spare bits of the part table. Every public function takes any input and has no precondition; what is kept is
 // promised where it was right before.
+#![tactic(auto)]
+
 ghost use Rattle.std.specs.Prelude.{◌≡◌, ◌-◌, ◌/◌, ◌<◌, length, get_or, set};
-ghost use Rattle.wire.specs.Lent.{before, after};
 ghost use Rattle.waiting.specs.Waiting.{parts_in, greater, node, NodeAt, Tree, Gives, Finds, Settles};
 
 use wire::number::least;
 
 // The row of the lowest directory found and not done, the number of rows where there is none; its place, 0 where there is none; and how
 // many such directories there are.
-#[derive(Drop)]
+#[derive(Clone, Copy)]
 pub struct Waiting {
     pub row: usize,
     pub place: u64,
@@ -27,7 +28,7 @@ fn greater_of(a: u64, b: u64) -> u64
 
 // A node of the tree.
 fn node_at(part: &[u64], i: usize) -> u64
-    ensures { NodeAt (before part) i result }
+    ensures { NodeAt part.now i result }
 {
     let n = part.len();
     if i < n {
@@ -46,7 +47,7 @@ fn node_at(part: &[u64], i: usize) -> u64
 // Mends the tree above a node that has this value: each node above is the greater of the one just left and the one beside that.
 fn climb(part: &mut [u64], from: usize, value: u64)
     requires { (from / 2 < length part.old) × NodeAt part.old from value }
-    ensures { (parts_in (after part) ≡ parts_in (before part)) × (Tree (before part) (from / 2) → Tree (after part) 0) }
+    ensures { (parts_in part.new ≡ parts_in part.old) × (Tree part.old (from / 2) → Tree part.new 0) }
 {
     let mut i = from;
     let mut v = value;
@@ -65,7 +66,7 @@ fn climb(part: &mut [u64], from: usize, value: u64)
 // Gives a row a part, and mends the tree.
 fn put_part(part: &mut [u64], row: usize, new: u64)
     requires { (row < length part.old) × (new < 16) }
-    ensures { (parts_in (after part) ≡ set (parts_in (before part)) row new) × (Tree (before part) 0 → Tree (after part) 0) }
+    ensures { (parts_in part.new ≡ set (parts_in part.old) row new) × (Tree part.old 0 → Tree part.new 0) }
 {
     let old = part[row];
     part[row] = old / 16 * 16 + new;
@@ -76,8 +77,8 @@ fn put_part(part: &mut [u64], row: usize, new: u64)
 
 // The lowest of so many directories.
 fn lowest(start: &[u64], part: &[u64], number: usize) -> Waiting
-    ensures { (result.number ≡ number) × (result.row ≡ length (before part) - node (before part) 1)
-        × (result.place ≡ get_or (before start) result.row 0) }
+    ensures { (result.number ≡ number) × (result.row ≡ length part.now - node part.now 1)
+        × (result.place ≡ get_or start.now result.row 0) }
 {
     let n = part.len();
     let row = n - least(n, node_at(part, 1) as usize);

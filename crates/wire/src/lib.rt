@@ -1,5 +1,7 @@
 // What records are made of: big-endian numbers and counted strings. Every public function takes any input and has
 // no precondition.
+#![tactic(auto)]
+
 ghost use Rattle.std.specs.Prelude.{◌≡◌};
 ghost use Rattle.wire.specs.Answer.{done, refusal};
 
@@ -7,7 +9,7 @@ pub mod number;
 pub mod text;
 
 // A function's answer: a refusal's number or 0, its place, and a count.
-#[derive(Drop)]
+#[derive(Clone, Copy)]
 pub struct Answer {
     pub number: u64,
     pub place: u64,

@@ -1,7 +1,6 @@
 // Big-endian numbers, read at any place, and signed numbers of 16 bits.
 ghost use Rattle.std.specs.Prelude.{◌≡◌, ◌<◌, ◌≤◌, ◌+◌, ◌^◌, length};
 ghost use Rattle.wire.specs.Layout.{width_of};
-ghost use Rattle.wire.specs.Lent.{before};
 ghost use Rattle.wire.specs.Number.{num_at, Word, LittlePair, turned_pair, Little, turned_of, lesser, signed_of, bits16};
 
 fn wide(b: u8) -> u32
@@ -12,7 +11,7 @@ fn wide(b: u8) -> u32
 
 // The number of 1 byte at a place; 0 unless it is there.
 pub fn be8(s: &[u8], at: usize) -> u32
-    ensures { result ≡ num_at 1 (before s) at }
+    ensures { result ≡ num_at 1 s.now at }
 {
     if s.len() <= at {
         return 0;
@@ -24,7 +23,7 @@ pub fn be8(s: &[u8], at: usize) -> u32
 // The little-endian number of 2 bytes that are there: the compiler makes one load of it.
 fn little_pair(s: &[u8], at: usize) -> u32
     requires { at + 2 ≤ length s.now }
-    ensures { LittlePair (before s) at result }
+    ensures { LittlePair s.now at result }
 {
     wide(s[at]) + wide(s[at + 1]) * 256
 }
@@ -38,7 +37,7 @@ fn turned_pair(x: u32) -> u32
 
 // The number of 2 bytes at a place; 0 unless both are there.
 pub fn be16(s: &[u8], at: usize) -> u32
-    ensures { (result ≡ num_at 2 (before s) at) × (result < 65536) }
+    ensures { (result ≡ num_at 2 s.now at) × (result < 65536) }
 {
     if s.len() < 2 {
         return 0;
@@ -52,7 +51,7 @@ pub fn be16(s: &[u8], at: usize) -> u32
 // The little-endian number of 4 bytes that are there: the compiler makes one load of it.
 fn little(s: &[u8], at: usize) -> u32
     requires { at + 4 ≤ length s.now }
-    ensures { Little (before s) at result }
+    ensures { Little s.now at result }
 {
     wide(s[at]) + wide(s[at + 1]) * 256 + wide(s[at + 2]) * 65536 + wide(s[at + 3]) * 16777216
 }
@@ -67,14 +66,14 @@ fn turned(x: u32) -> u32
 // The number of 4 bytes that are there.
 pub(crate) fn word(s: &[u8], at: usize) -> u32
     requires { at + 4 ≤ length s.now }
-    ensures { Word (before s) at result }
+    ensures { Word s.now at result }
 {
     turned(little(s, at))
 }
 
 // The number of 4 bytes at a place; 0 unless all are there.
 pub fn be32(s: &[u8], at: usize) -> u32
-    ensures { result ≡ num_at 4 (before s) at }
+    ensures { result ≡ num_at 4 s.now at }
 {
     if s.len() < 4 {
         return 0;
@@ -87,7 +86,7 @@ pub fn be32(s: &[u8], at: usize) -> u32
 
 // The number of 8 bytes at a place; 0 unless all are there.
 pub fn be64(s: &[u8], at: usize) -> u64
-    ensures { result ≡ num_at 8 (before s) at }
+    ensures { result ≡ num_at 8 s.now at }
 {
     if s.len() < 8 {
         return 0;
@@ -120,7 +119,7 @@ pub fn greatest(wide: bool) -> u64
 
 // The offset at a place; 0 unless all its bytes are there.
 pub fn be_offset(s: &[u8], at: usize, wide: bool) -> u64
-    ensures { result ≡ num_at (width_of wide) (before s) at }
+    ensures { result ≡ num_at (width_of wide) s.now at }
 {
     if wide {
         return be64(s, at);
@@ -139,6 +138,7 @@ pub fn least(a: usize, b: usize) -> usize
 }
 
 // The signed value of 16 bits.
+#[tactic(auto, using(crate::proofs::Signs::low, crate::proofs::Signs::high))]
 pub fn signed16(raw: u16) -> i32
     ensures { result ≡ signed_of 2 raw }
 {
@@ -149,13 +149,14 @@ pub fn signed16(raw: u16) -> i32
 }
 
 // A signed number as 16 bits, where they hold it.
-#[derive(Drop)]
+#[derive(Clone, Copy)]
 pub enum Bits {
     Held(u32),
     Wide,
 }
 
 // The 16 bits of a signed number, or that they do not hold it.
+#[tactic(auto, using(crate::proofs::Signs::too_low, crate::proofs::Signs::too_high, crate::proofs::Signs::sum_is, crate::proofs::Signs::below, crate::proofs::Signs::over_is, crate::proofs::Signs::above))]
 pub fn bits_of(z: i32) -> Bits
     ensures { result ≡ bits16 z }
 {

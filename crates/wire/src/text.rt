@@ -1,7 +1,6 @@
 // Counted strings: a length byte 0 to 254 and as many bytes, or the byte 255, a length of four bytes and as many bytes.
 ghost use Rattle.std.specs.Prelude.{◌≡◌, ◌<◌, ◌≤◌, length};
 ghost use Rattle.wire.specs.Equal.{eq_bytes};
-ghost use Rattle.wire.specs.Lent.{before};
 ghost use Rattle.wire.specs.Number.{num_at};
 ghost use Rattle.wire.specs.Text.{least_long, prefix_size, text_in};
 
@@ -14,20 +13,21 @@ pub const LEAST_LONG: usize = 255;
 pub const LONG_PREFIX: usize = 5;
 
 // Where a string stands: the first byte of its content, its length, and the place after it.
-#[derive(Drop)]
+#[derive(Clone, Copy)]
 pub struct Text {
     pub start: usize,
     pub len: usize,
     pub next: usize,
 }
 
-#[derive(Drop)]
+#[derive(Clone, Copy)]
 pub enum Found {
     Held(Text),
     Cut,
 }
 
 // The bytes before those of a string of n bytes: 1, or 5 from 255 on.
+#[tactic(auto, using(crate::proofs::Texts::short_size, crate::proofs::Texts::long_size))]
 pub fn prefix_size(n: usize) -> usize
     ensures { (result ≡ prefix_size n) × (result ≤ 5) }
 {
@@ -40,7 +40,7 @@ pub fn prefix_size(n: usize) -> usize
 // The string in the long form at a place, if its length takes that form and it ends at or before end.
 fn long_text(s: &[u8], at: usize, end: usize) -> Found
     requires { (least_long ≤ num_at 1 s.now at) × (at < end) × (end ≤ length s.now) }
-    ensures { result ≡ text_in (before s) at end }
+    ensures { result ≡ text_in s.now at end }
 {
     let len = be32(s, at + 1) as usize;
     if len < LEAST_LONG {
@@ -59,7 +59,7 @@ fn long_text(s: &[u8], at: usize, end: usize) -> Found
 
 // The string that begins at a place, if it has the form of its length and ends at or before end; cut too where end is past the slice.
 pub fn read_text(s: &[u8], at: usize, end: usize) -> Found
-    ensures { result ≡ text_in (before s) at end }
+    ensures { result ≡ text_in s.now at end }
 {
     if s.len() < end {
         return Found::Cut;
@@ -83,7 +83,7 @@ pub fn read_text(s: &[u8], at: usize, end: usize) -> Found
 
 // Whether two slices hold the same bytes.
 pub fn same(a: &[u8], b: &[u8]) -> bool
-    ensures { result ≡ eq_bytes (before a) (before b) }
+    ensures { result ≡ eq_bytes a.now b.now }
 {
     if a.len() != b.len() {
         return false;

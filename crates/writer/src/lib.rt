@@ -1,6 +1,7 @@
 // The key writer. The public function takes any input and has no precondition.
+#![tactic(auto)]
+
 ghost use Rattle.std.specs.Prelude.{◌≡◌, ◌+◌, ◌≤◌, length};
-ghost use Rattle.wire.specs.Lent.{before, after};
 ghost use Rattle.wire.specs.Number.{bits_of};
 ghost use Rattle.wire.specs.Patch.{patch};
 ghost use Rattle.wire.specs.Text.{text_size};
@@ -16,7 +17,7 @@ mod store;
 // Writes three strings, one after the other, at the front of a part.
 fn put_names(part: &mut [u8], class: &[u8], name: &[u8], title: &[u8])
     requires { text_size (length class.now) + text_size (length name.now) + text_size (length title.now) ≤ length part.old }
-    ensures { after part ≡ patch (before part) 0 (name_bytes (before class) (before name) (before title)) }
+    ensures { part.new ≡ patch part.old 0 (name_bytes class.now name.now title.now) }
 {
     let second = put_text(&mut *part, class);
     let third = second + put_text(&mut part[second..], name);
@@ -35,7 +36,7 @@ fn put_header(
 )
     requires { (cycle ≡ bits_of 2 f.cycle)
         × (keylen ≡ sum_bytes f.version class.now name.now title.now) × (keylen ≤ length part.old) }
-    ensures { after part ≡ patch (before part) 0 (header_bytes f (before class) (before name) (before title)) }
+    ensures { part.new ≡ patch part.old 0 (header_bytes f class.now name.now title.now) }
 {
     let version = f.version;
     let w = width(1000 < version);
@@ -59,7 +60,7 @@ fn put_header(
 // unchanged: 15 for a sum above 32,767, 16 for a header that is not well formed or a value that does not fit its field, 17 for a record
 // that the buffer cannot hold.
 pub fn write_key(f: Fields, class: &[u8], name: &[u8], title: &[u8], buf: &mut [u8]) -> Answer
-    ensures { Writes f (before class) (before name) (before title) (before buf) (after buf) result }
+    ensures { Writes f class.now name.now title.now buf.old buf.new result }
 {
     let version = f.version;
     let sum = sum_for(version, class.len(), name.len(), title.len());
