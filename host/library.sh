@@ -1,16 +1,21 @@
-# For `run`, `run-docs` and `install`, which set `root`: proves and builds the static library where it is not there or a
-# file of the crates is newer; builds programs over it.
-library=$root/target/staticlib/libcapi.a
+# For `run`, `run-docs`, `install` and `run-tests`, which set `root`: proves and builds the static library where it is not
+# there or a file of the crates is newer; builds programs over it.
+library=$root/crates/capi/out/libcapi.a
 programs=$root/host/target/release
 # The programs that are installed.
 installed="rootaudit rootkeys"
 
+# Whether what was built is not there, or is older than a file of the crates.
+is_old() {
+    [ ! -e "$1" ] || [ -n "$(find "$root/crates.txt" "$root/crates" -name out -prune -o -type f -newer "$1" -print)" ]
+}
+
 build_library() {
-    if [ ! -e "$library" ] || [ -n "$(find "$root/crates.txt" "$root/crates" -type f -newer "$library")" ]; then
+    if is_old "$library"; then
         echo "proving and building the library, which takes minutes the first time" >&2
         log=$(mktemp) || exit 2
         trap 'rm -f "$log"' EXIT
-        if ! (cd "$root" && rt staticlib capi) >"$log" 2>&1; then
+        if ! (cd "$root/crates/capi" && rt lib) >"$log" 2>&1; then
             cat "$log" >&2
             exit 2
         fi

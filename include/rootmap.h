@@ -1,14 +1,14 @@
 /*
  * rootmap: the C interface of the proved reader of ROOT files.
  *
- * Link librootmap.a, which `host/install PREFIX` puts in place, or target/staticlib/libcapi.a, which
- * `rt staticlib capi` writes: they are the same. For x86-64 Linux.
+ * Link librootmap.a, which `host/install PREFIX` puts in place, or crates/capi/out/libcapi.a, which
+ * `rt lib` in crates/capi writes: they are the same. For x86-64 Linux.
  *
  * Every function that audits, reads, writes or packs returns a number, ROOTMAP_PASSED for success, and
  * writes *place and *count in every case. The numbers are named below. Only ROOTMAP_PASSED is a pass:
- * whatever else rootmap_audit, rootmap_view or rootmap_card_write returns, ROOTMAP_UNFINISHED too, says
- * nothing good of the file. That rootmap_salvage or rootmap_card_read succeeds is no pass, and that
- * rootmap_audit_salvaged passes says nothing of what was lost.
+ * whatever else rootmap_audit or rootmap_view returns, ROOTMAP_UNFINISHED too, says nothing good of the
+ * file. That rootmap_salvage succeeds is no pass, and that rootmap_audit_salvaged passes says nothing of
+ * what was lost.
  *
  * A pass is no checksum: the data of objects are not looked into.
  *
@@ -56,7 +56,7 @@
 #define ROOTMAP_TWICE 14      /* a record that a directory has as its list, or lists, has a part already */
 #define ROOTMAP_NAME 15       /* KeyLen would be above 32,767: the three strings are too long together */
 #define ROOTMAP_FIELD 16      /* the key header would not be well formed, or a value does not fit its field */
-#define ROOTMAP_ROOM 17       /* beyond the buffer: SeekKey + Nbytes; beyond the output: a card, or its file; over 2^32 blocks */
+#define ROOTMAP_ROOM 17       /* SeekKey + Nbytes lies beyond the buffer */
 #define ROOTMAP_DATE 18       /* a date field is not in its range */
 #define ROOTMAP_PACKED 19     /* the info record is packed */
 #define ROOTMAP_NOT_INFO 20   /* the piece is no info record */
@@ -65,10 +65,6 @@
 #define ROOTMAP_REFERENCED 23 /* an object in the info record is referenced */
 #define ROOTMAP_ROWS 24       /* there are more elements than rows */
 #define ROOTMAP_SALVAGE 27    /* no gap covers what breaks the chain: too few bytes are left, or it would be too great */
-#define ROOTMAP_MISSING 28    /* a block of the card is missing or incomplete */
-#define ROOTMAP_ORDER 29      /* a block of the card has another number than its own */
-#define ROOTMAP_CHECK 30      /* a block of the card has another check than its bytes */
-#define ROOTMAP_TAIL 31       /* END is below 100, the padding is not zeros, or bytes follow the last block */
 
 /* The parts that an audit gives to the pieces of a file. */
 #define ROOTMAP_PART_GAP 0
@@ -224,39 +220,6 @@ uint64_t rootmap_salvage(uint8_t *buf, size_t buf_len, uint8_t *seen, size_t see
 uint64_t rootmap_audit_salvaged(const uint8_t *file, size_t file_len, uint64_t *start, size_t start_len,
                                 uint64_t *part, size_t part_len, uint64_t *owner, size_t owner_len,
                                 uint64_t *place, uint64_t *count);
-
-/*
- * Audits a whole file as rootmap_audit does, and writes it to a transfer card: blocks of 512 bytes, each
- * with its number in 4 bytes, from 0 on, 504 bytes of the file, zeros after the last one of it, and a check
- * in 4 bytes. The check is of the 508 bytes before it: it starts at 0, and for each byte becomes three times
- * itself plus the byte, wrapping at 32 bits. All numbers are big-endian. For file_len bytes there are
- * (file_len + 503) / 504 blocks.
- *
- * Success: 0, place 0, count the bytes of the card, 512 for each block. They stand at the front of card, and
- * behind them it is as it was. The tables hold the rows of rootmap_audit.
- *
- * Refused: as rootmap_audit, whatever the card; else 17, place 0, count 0: the card is too short, or there
- * are more than 2^32 blocks. Then the card is as it was, and every entry of every table is 0.
- */
-uint64_t rootmap_card_write(const uint8_t *file, size_t file_len, uint8_t *card, size_t card_len,
-                            uint64_t *start, size_t start_len, uint64_t *part, size_t part_len,
-                            uint64_t *owner, size_t owner_len, uint64_t *place, uint64_t *count);
-
-/*
- * Reads the file of a transfer card. END of the file header in block 0, as wide as Version there says, is
- * its length, and says how many blocks there are, at least one. Nothing else of the file is looked at:
- * audit it.
- *
- * Success: 0, place 0, count END. So many bytes at the front of out are written and no others. The card of a
- * file that passes gives back that file. A card that is taken is refused once any one byte of it is changed.
- *
- * Refused: place 0, count 0, and out is as it was. For each block in turn 28 if it is missing or incomplete,
- * 29 if its number is another, 30 if its check is. Then 31: END is below 100, or there are bytes after the
- * last block, or one between the file and the check of that block is not 0. Then 17: out is shorter than
- * END.
- */
-uint64_t rootmap_card_read(const uint8_t *card, size_t card_len, uint8_t *out, size_t out_len,
-                           uint64_t *place, uint64_t *count);
 
 /*
  * Reads the unpacked StreamerInfo record at offset `at` of a whole file into a table of rows of six

@@ -10,7 +10,7 @@ fn main() {
     let package = PathBuf::from(env::var_os("CARGO_MANIFEST_DIR").expect("cargo sets CARGO_MANIFEST_DIR"));
     let root = package.join("../..");
     let other = env::var_os("ROOTMAP_LIB_DIR").map(PathBuf::from);
-    link(other.as_deref().unwrap_or(&root.join("target/staticlib")));
+    link(other.as_deref().unwrap_or(&root.join("crates/capi/out")));
     println!("cargo::rustc-env=ROOTAUDIT_COMMIT={}", commit(&root).unwrap_or("unknown".into()));
     // Of a library that was built elsewhere nothing is known.
     let toolchain = if other.is_none() { said(Command::new("rt").arg("version")) } else { None };
@@ -22,7 +22,7 @@ fn link(folder: &Path) {
     let archive = folder.join("libcapi.a");
     println!("cargo::rerun-if-changed={}", archive.display());
     if !archive.is_file() {
-        println!("cargo::error={} is missing: run `rt staticlib capi` at the repository root", archive.display());
+        println!("cargo::error={} is missing: run `rt lib` in crates/capi", archive.display());
         return;
     }
     println!("cargo::rustc-link-search=native={}", folder.display());
@@ -51,7 +51,8 @@ fn commit(root: &Path) -> Option<String> {
     }
     let watched = ["HEAD", "refs", "packed-refs"];
     let watched = watched.into_iter().filter_map(|name| git(&["rev-parse", "--git-path", name]));
-    for path in watched.map(|path| root.join(path)).chain(SOURCES.map(|name| root.join(name))) {
+    let sources = SOURCES.map(|name| root.join(name)).into_iter().filter(|path| !path.ends_with("crates"));
+    for path in watched.map(|path| root.join(path)).chain(sources).chain(in_crates(root)) {
         if path.exists() {
             println!("cargo::rerun-if-changed={}", path.display());
         }
@@ -60,6 +61,12 @@ fn commit(root: &Path) -> Option<String> {
     let changes = git(&[["--no-optional-locks", "status", "--porcelain", "--"].as_slice(), &SOURCES].concat())?;
     let more = if changes.is_empty() { "" } else { ", with changes that are not committed" };
     Some(commit + more)
+}
+
+/// All that stands in the folders of the crates, but for what is built there.
+fn in_crates(root: &Path) -> impl Iterator<Item = PathBuf> {
+    let inside = |folder: PathBuf| folder.read_dir().into_iter().flatten().flatten().map(|entry| entry.path());
+    inside(root.join("crates")).flat_map(inside).filter(|path| !path.ends_with("out"))
 }
 
 /// The first line that a command prints. None if it fails.

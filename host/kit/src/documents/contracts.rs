@@ -15,18 +15,18 @@ Made by `host/run-docs`: each public function with the definitions that its `ens
 comment above it, then what the edits in `crates/NAME/must-fail` break, each of which is refused. No public function has
 a `requires`: each promise is for every input. The parameters of the C functions stand in `include/rootmap.h`.
 
-A definition is named by its file in `crates/NAME/specs`, with the crate before it where that is another. `before`,
-`after` (a slice at the call, at the return), `all` (of a list of tests), `Gives` (an enum's case, and its answer) and
-`told` (an answer as C gets it) are left out. Last stand edits of definitions, which leave the code as the wrong
-answer, and of private functions of several public ones.
+A definition is named by its file in `crates/NAME/specs`, with the crate before it where that is another. `held`,
+`before`, `after` (a slice, at the call, at the return), `all` (of a list of tests), `Gives` (an enum's case, and its
+answer) and `told` (an answer as C gets it) are left out. Last stand edits of definitions, which leave the code as the
+wrong answer, and of private functions of several public ones.
 ";
 
 /// How wide its lines are.
 const WIDTH: usize = 160;
 
 /// Names that many promises have.
-const PLUMBING: [(&str, &str); 5] =
-    [("Lent", "before"), ("Lent", "after"), ("Check", "all"), ("Answer", "Gives"), ("Told", "told")];
+const PLUMBING: [(&str, &str); 6] =
+    [("Lent", "held"), ("Lent", "before"), ("Lent", "after"), ("Check", "all"), ("Answer", "Gives"), ("Told", "told")];
 
 pub fn page(repository: &Repository) -> io::Result<String> {
     let mut page = HEAD.to_owned();
@@ -90,7 +90,10 @@ fn entry(repository: &Repository, of: &Crate, source: &Source, function: &Functi
 fn cited(repository: &Repository, of: &Crate, source: &Source, function: &Function) -> Vec<String> {
     let mut cited = Vec::new();
     let words = words(function.ensures.as_deref().unwrap_or_default());
-    for word in words.filter(|word| !function.parameters.iter().any(|name| name == word)) {
+    // `file.now` is of a parameter, too.
+    let is_parameter =
+        |word: &&str| function.parameters.iter().any(|name| Some(name.as_str()) == word.split('.').next());
+    for word in words.filter(|word| !is_parameter(word)) {
         for (place, _) in repository.meant(&source.uses, word) {
             let is_own = place.of == of.name;
             let owner = if is_own { String::new() } else { format!("{}/", place.of) };
@@ -113,20 +116,22 @@ enum Stands {
 
 fn stands(of: &Crate, edit: &Edit) -> io::Result<Stands> {
     let lost = || io::Error::other(format!("{}: must-fail/{}.edit changes nothing that is there", of.name, edit.name));
-    if let Some(file) = edit.file.strip_prefix("specs/").and_then(|file| file.strip_suffix(".antt")) {
-        let theory = of.specs.iter().find(|theory| theory.file == file).ok_or_else(lost)?;
-        theory.definitions.iter().find(|one| one.text.contains(&edit.old)).ok_or_else(lost)?;
-        return Ok(Stands::Shared(file.to_owned()));
+    edit.old.iter().find_map(|(file, old)| stands_at(of, file, old)).ok_or_else(lost)
+}
+
+/// The same of one line; none of an import, which belongs to no definition or function.
+fn stands_at(of: &Crate, file: &str, old: &str) -> Option<Stands> {
+    if let Some(file) = file.strip_prefix("specs/").and_then(|file| file.strip_suffix(".antt")) {
+        let theory = of.specs.iter().find(|theory| theory.file == file)?;
+        theory.definitions.iter().find(|one| one.text.contains(old))?;
+        return Some(Stands::Shared(file.to_owned()));
     }
-    let file = edit.file.strip_prefix("src/").and_then(|file| file.strip_suffix(".rt")).ok_or_else(lost)?;
+    let file = file.strip_prefix("src/").and_then(|file| file.strip_suffix(".rt"))?;
     let module = if file == "lib" { "" } else { file };
-    let source = of.sources.iter().find(|source| source.module == module).ok_or_else(lost)?;
-    if !source.text.contains(&edit.old) {
-        return Err(lost());
-    }
-    let (name, changed) = source.changed(&edit.old);
+    let source = of.sources.iter().find(|source| source.module == module)?;
+    let (name, changed) = source.changed(old)?;
     let callers = public_over(of, changed.into_iter().map(|function| (source, function)).collect());
-    Ok(match callers.as_slice() {
+    Some(match callers.as_slice() {
         [one] => Stands::At(one.clone()),
         _ => Stands::Shared(name),
     })

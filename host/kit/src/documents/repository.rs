@@ -29,7 +29,8 @@ pub struct Place<'a> {
 
 pub fn read(root: &Path) -> io::Result<Repository> {
     let crates = text(&root.join("crates.txt"))?;
-    let names = crates.lines().filter_map(|line| line.split(':').next()).filter(|name| !name.is_empty());
+    // A line is `NAME: DEP DEP`, with words about the crate behind its name.
+    let names = crates.lines().filter_map(|line| line.split([':', '#']).next()?.split_whitespace().next());
     Ok(Repository { crates: names.map(|name| read_crate(root, name)).collect::<io::Result<_>>()? })
 }
 

@@ -11,7 +11,7 @@ pub struct Source {
     pub module: String,
     /// Definitions that promises cite.
     pub uses: Vec<Use>,
-    /// What is taken from other modules and crates.
+    /// What is taken from other modules and crates, a path each.
     pub imports: Vec<String>,
     pub functions: Vec<Function>,
     pub text: String,
@@ -45,14 +45,32 @@ pub fn read(folder: &Path) -> io::Result<Vec<Source>> {
 fn parse(module: String, text: &str) -> Source {
     let lines: Vec<&str> = text.lines().collect();
     let starts = (0..lines.len()).filter(|&i| head(lines[i]).is_some());
-    let imports = lines.iter().filter_map(|line| line.strip_prefix("use ")?.strip_suffix(';'));
     Source {
         module,
         uses: lines.iter().filter_map(|line| taken(line)).collect(),
-        imports: imports.map(str::to_owned).collect(),
+        imports: imports(&lines),
         functions: starts.map(|i| function(&lines, i)).collect(),
         text: text.to_owned(),
     }
+}
+
+/// The paths that `use` takes, of `a::{b, c}` each; a list of them may have lines of its own.
+fn imports(lines: &[&str]) -> Vec<String> {
+    let starts = (0..lines.len()).filter(|&i| lines[i].starts_with("use "));
+    let whole = starts.filter_map(|start| {
+        let end = lines[start..].iter().position(|line| line.ends_with(';'))?;
+        let text: String = lines[start..=start + end].iter().map(|line| line.trim()).collect();
+        Some(text.strip_prefix("use ")?.strip_suffix(';')?.to_owned())
+    });
+    whole
+        .flat_map(|text| match text.split_once("::{") {
+            Some((path, names)) => {
+                let names = names.trim_end_matches('}').split(',').map(str::trim).filter(|name| !name.is_empty());
+                names.map(|name| format!("{path}::{name}")).collect()
+            }
+            None => vec![text],
+        })
+        .collect()
 }
 
 /// Whether a function that begins in this line is public, and its name with what follows.
@@ -71,7 +89,8 @@ fn function(lines: &[&str], start: usize) -> Function {
     let (is_public, rest) = head(lines[start]).unwrap_or_default();
     let length = lines[start..].iter().position(|&line| line == "}").map_or(lines.len() - start, |i| i + 1);
     let all = &lines[start..start + length];
-    let contract = &all[..all.iter().position(|line| line.ends_with('{')).unwrap_or(all.len())];
+    let is_body = |line: &&str| line.ends_with('{') && keyword(line).is_none();
+    let contract = &all[..all.iter().position(is_body).unwrap_or(all.len())];
     let text = all.join("\n");
     let parameters = text.split_once('(').and_then(|(_, rest)| rest.split_once(')')).map_or("", |(inside, _)| inside);
     Function {
@@ -80,39 +99,57 @@ fn function(lines: &[&str], start: usize) -> Function {
         is_c: lines[start].contains("extern \"C\""),
         parameters: parameters.split(',').filter_map(|one| Some(one.split_once(':')?.0.trim().to_owned())).collect(),
         comment: comment(&lines[..start]),
-        requires: clause(contract, "requires"),
-        ensures: clause(contract, "ensures"),
+        requires: clauses(contract, "requires"),
+        ensures: clauses(contract, "ensures"),
         text,
     }
 }
 
-/// The comment that ends the lines, whatever attributes stand below it.
+/// The comment that ends the lines, whatever attributes stand below it; one of these may have several lines.
 fn comment(above: &[&str]) -> String {
-    let above = above.iter().rev().skip_while(|line| line.starts_with("#["));
-    let mut lines: Vec<&str> = above.map_while(|line| line.strip_prefix("// ")).collect();
+    let mut end = above.len();
+    while let Some(start) = above[..end].iter().rposition(|line| line.starts_with("#[")) {
+        if !above[start..end].last().is_some_and(|line| line.ends_with(']')) || above[start..end].contains(&"") {
+            break;
+        }
+        end = start;
+    }
+    let mut lines: Vec<&str> = above[..end].iter().rev().map_while(|line| line.strip_prefix("// ")).collect();
     lines.reverse();
     lines.join(" ")
 }
 
-/// `requires` or `ensures` of a contract, to the next of them or its end.
-fn clause(contract: &[&str], keyword: &str) -> Option<String> {
-    let is_start = |line: &&str| ["requires", "ensures"].iter().any(|word| line.starts_with(&format!("    {word} {{")));
-    let first = contract.iter().position(|line| line.starts_with(&format!("    {keyword} {{")))?;
-    let rest = contract[first + 1..].iter().take_while(|line| !is_start(line)).copied();
-    Some(std::iter::once(contract[first]).chain(rest).collect::<Vec<_>>().join("\n"))
+/// The word with which a clause begins in this line, whatever its name: `ensures { .. }`, `ensures low { .. }`.
+fn keyword(line: &str) -> Option<&'static str> {
+    let rest = line.strip_prefix("    ")?;
+    let is_first = |word: &&str| rest.strip_prefix(word).is_some_and(|rest| rest.starts_with([' ', '*']));
+    ["requires", "ensures", "ghost"].into_iter().find(is_first)
+}
+
+/// All clauses of a contract with this word.
+fn clauses(contract: &[&str], wanted: &str) -> Option<String> {
+    let mut open = None;
+    let mut lines: Vec<&str> = Vec::new();
+    for line in contract {
+        open = keyword(line).or(open);
+        if open == Some(wanted) {
+            lines.push(line);
+        }
+    }
+    (!lines.is_empty()).then(|| lines.join("\n"))
 }
 
 impl Source {
     /// The functions that a change of this text concerns: the one that has it, or those of the module that use the
     /// constant that has it.
-    pub fn changed(&self, text: &str) -> (String, Vec<&Function>) {
+    pub fn changed(&self, text: &str) -> Option<(String, Vec<&Function>)> {
         if let Some(one) = self.functions.iter().find(|one| one.text.contains(text)) {
-            return (one.name.clone(), vec![one]);
+            return Some((one.name.clone(), vec![one]));
         }
-        let end = self.text.find(text).map_or(0, |place| place + text.len());
-        let constant = self.text[..end].rsplit("const ").next();
-        let name = constant.and_then(|rest| rest.split(':').next()).unwrap_or_default();
-        (name.to_owned(), self.functions.iter().filter(|one| one.text.contains(name)).collect())
+        let end = self.text.find(text)? + text.len();
+        let (_, constant) = self.text[..end].rsplit_once("const ")?;
+        let name = constant.split(':').next()?;
+        Some((name.to_owned(), self.functions.iter().filter(|one| one.text.contains(name)).collect()))
     }
 
     /// The function as it is called from outside the crate.

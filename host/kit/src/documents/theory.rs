@@ -143,12 +143,12 @@ fn word(text: &str) -> &str {
     text.split_whitespace().next().unwrap_or_default()
 }
 
-/// `use Rattle·CRATE.specs.FILE.{names}`, in code with `ghost` before it and `;` after it, or `as name`.
+/// `use Rattle.CRATE.specs.FILE.{names}`, in code with `ghost` before it and `;` after it, or `as name`.
 pub fn taken(line: &str) -> Option<Use> {
     let rest = line.trim().trim_end_matches(';');
-    let rest = rest.strip_prefix("ghost ").unwrap_or(rest).strip_prefix("use Rattle·")?;
+    let rest = rest.strip_prefix("ghost ").unwrap_or(rest).strip_prefix("use Rattle.")?;
     let (of, rest) = rest.split_once(".specs.")?;
-    let of = of.trim_end_matches("·specs").to_owned();
+    let of = of.to_owned();
     if let Some((file, name)) = rest.split_once(" as ").filter(|(file, _)| !file.contains('.')) {
         return Some(Use { of, file: file.to_owned(), names: Taken::As(name.to_owned()) });
     }

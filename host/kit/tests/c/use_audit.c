@@ -1,5 +1,5 @@
-/* Audits one.root from C, with four-byte and with eight-byte offsets, into tables and into a list for a viewer, writes
-   it to a card and reads it back, breaks and salvages it, and checks what is answered and written. */
+/* Audits one.root from C, with four-byte and with eight-byte offsets, into tables and into a list for a viewer, breaks
+   and salvages it, and checks what is answered and written. */
 #include "rootmap.h"
 
 #include <stdio.h>
@@ -203,75 +203,6 @@ static void rows(const uint32_t *starts)
           "zeros after 9");
 }
 
-static uint8_t card[520], out[sizeof file + 8];
-
-static uint64_t write_card(size_t card_len)
-{
-    memset(tables, 0x5a, sizeof tables);
-    memset(card, 0x5a, sizeof card);
-    place = count = 9;
-    return rootmap_card_write(file, end, card, card_len, tables[0], 6, tables[1], 6, tables[2], 6, &place, &count);
-}
-
-/* Reads a card of so many bytes: what is answered, if place and count are right and nothing else is written. */
-static uint64_t read_card(size_t card_len, size_t out_len)
-{
-    uint64_t result;
-    size_t i, written;
-
-    memset(out, 0x5a, sizeof out);
-    place = count = 9;
-    result = rootmap_card_read(card, card_len, out, out_len, &place, &count);
-    written = result == ROOTMAP_PASSED ? end : 0;
-    for (i = written; i < sizeof out; i++)
-        if (out[i] != 0x5a)
-            return UINT64_MAX;
-    return place == 0 && count == written && memcmp(out, file, written) == 0 ? result : UINT64_MAX;
-}
-
-/* Whether these bytes are all the same. */
-static int are_all(const uint8_t *from, size_t len, uint8_t value)
-{
-    while (len > 0)
-        if (from[--len] != value)
-            return 0;
-    return 1;
-}
-
-/* Its card is one block. */
-static void transfer(const uint32_t *starts)
-{
-    uint32_t sum = 0;
-    size_t i;
-
-    check(write_card(511) == ROOTMAP_ROOM && place == 0 && count == 0, "a card of 511 bytes is 17");
-    check(are_all(card, sizeof card, 0x5a) && are_all((const uint8_t *)tables[0], 6 * sizeof tables[0][0], 0),
-          "nothing is left of it");
-    check(write_card(sizeof card) == ROOTMAP_PASSED && place == 0 && count == 512, "the card is written");
-    check(tables[0][4] == starts[4] && tables[0][5] == 0 && tables[1][4] == ROOTMAP_PART_FREE, "its rows");
-    for (i = 0; i < 508; i++)
-        sum = 3 * sum + card[i];
-    check(are_all(card, 4, 0) && memcmp(card + 4, file, end) == 0 && are_all(card + 4 + end, 504 - end, 0),
-          "its number, its file and its padding");
-    check(card[508] == sum >> 24 && card[509] == (sum >> 16 & 255) && card[510] == (sum >> 8 & 255) &&
-              card[511] == (sum & 255) && are_all(card + 512, sizeof card - 512, 0x5a),
-          "its check, and nothing behind it");
-
-    check(read_card(512, end) == ROOTMAP_PASSED && read_card(512, sizeof out) == ROOTMAP_PASSED, "it is read back");
-    check(read_card(512, end - 1) == ROOTMAP_ROOM, "a short output is 17");
-    check(read_card(511, end) == ROOTMAP_MISSING, "a card that is cut is 28");
-    check(read_card(513, end) == ROOTMAP_TAIL, "a byte behind it is 31");
-    for (i = 0; i < 512; i++) {
-        card[i] ^= 1;
-        check(read_card(512, end) == (i < 4 ? ROOTMAP_ORDER : ROOTMAP_CHECK), "a changed byte is 29 or 30");
-        card[i] ^= 1;
-    }
-    file[starts[3]] ^= 1;
-    check(write_card(sizeof card) == ROOTMAP_CHAIN && place == starts[3] && count == 0, "a broken file has no card");
-    check(are_all(card, sizeof card, 0x5a), "nothing of it is written");
-    file[starts[3]] ^= 1;
-}
-
 /* Whether the file is salvaged with this number, place and count, its bytes from `at` on hold `value` and no others are
    changed, and the scratch holds zeros. */
 static int salvages(uint64_t expected, uint64_t at, uint64_t until, uint32_t value)
@@ -322,14 +253,12 @@ int main(void)
     end = 364;
     width = 4;
     one_root(62400, narrow, 2000000000);
-    transfer(narrow);
     rows(narrow);
     salvage(narrow);
 
     end = 432;
     width = 8;
     one_root(1062400, wide, UINT64_MAX);
-    transfer(wide);
     rows(wide);
     /* SeekFree past 32 bits is the place of 9. */
     offset(20, UINT64_MAX);

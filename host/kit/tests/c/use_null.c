@@ -102,28 +102,6 @@ static void salvages(void)
           "no salvaged file");
 }
 
-static void cards(void)
-{
-    uint64_t tables[3][ROOM];
-    uint8_t bytes[ROOM], before[ROOM];
-
-    memset(tables, 0x5a, sizeof tables);
-    memset(bytes, 0x5a, sizeof bytes);
-    memcpy(before, bytes, sizeof bytes);
-    check(rootmap_card_write(NULL, 0, bytes, ROOM, tables[0], ROOM, tables[1], ROOM, tables[2], ROOM, &place, &count) ==
-                  ROOTMAP_SHORT &&
-              told(0, 0),
-          "no file to write");
-    check(is_zero(tables, sizeof tables) && memcmp(bytes, before, ROOM) == 0, "its tables and card");
-    check(rootmap_card_write(NULL, 0, NULL, 0, NULL, 0, NULL, 0, NULL, 0, &place, &count) == ROOTMAP_SHORT &&
-              told(0, 0),
-          "nor card nor tables");
-    check(rootmap_card_read(NULL, 0, bytes, ROOM, &place, &count) == ROOTMAP_MISSING && told(0, 0), "no card to read");
-    check(memcmp(bytes, before, ROOM) == 0, "its output");
-    check(rootmap_card_read(NULL, 0, NULL, 0, &place, &count) == ROOTMAP_MISSING && told(0, 0), "nor output");
-    check(rootmap_card_read(bytes, ROOM, NULL, 0, &place, &count) == ROOTMAP_MISSING && told(0, 0), "a short card");
-}
-
 /* A header, and a record to its end: one piece. */
 static void one_piece(void)
 {
@@ -143,10 +121,6 @@ static void one_piece(void)
                   ROOTMAP_UNFINISHED &&
               told(0, 1),
           "no rows are 7 for a salvaged file");
-    check(rootmap_card_write(file, sizeof file, NULL, 0, NULL, 0, NULL, 0, NULL, 0, &place, &count) ==
-                  ROOTMAP_UNFINISHED &&
-              told(0, 1),
-          "no rows and no card are 7");
     check(rootmap_salvage(file, sizeof file, NULL, 0, &place, &count) == ROOTMAP_PASSED &&
               told(sizeof file, sizeof file),
           "a good chain without a scratch");
@@ -174,7 +148,6 @@ int main(void)
     infos();
     audits();
     salvages();
-    cards();
     one_piece();
     if (failed)
         return 1;

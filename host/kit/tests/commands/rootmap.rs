@@ -16,7 +16,7 @@ const ROWS: usize = 1024;
 
 /// What the proved program prints. Its input is no longer than a pipe holds, or is all read.
 fn printed(file: &[u8]) -> String {
-    let program = repository().join("target/bin/rootmap");
+    let program = repository().join("crates/rootmap/out/rootmap");
     let mut child = Command::new(&program)
         .stdin(Stdio::piped())
         .stdout(Stdio::piped())

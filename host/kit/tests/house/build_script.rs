@@ -13,11 +13,11 @@ struct Place(PathBuf);
 impl Place {
     fn new(name: &str) -> Self {
         let place = Place(folder(name));
-        for folder in ["bin", "repo/host/programs/src", "repo/target/staticlib"] {
+        for folder in ["bin", "repo/host/programs/src", "repo/crates/capi/out"] {
             fs::create_dir_all(place.0.join(folder)).unwrap();
         }
-        fs::write(place.0.join("repo/target/staticlib/libcapi.a"), "").unwrap();
-        fs::write(place.0.join("repo/.gitignore"), "/target/\n").unwrap();
+        fs::write(place.0.join("repo/crates/capi/out/libcapi.a"), "").unwrap();
+        fs::write(place.0.join("repo/.gitignore"), "/crates/*/out/\n").unwrap();
         fs::write(place.0.join("repo/host/programs/src/lib.rs"), "").unwrap();
         let rt = place.0.join("bin/rt");
         fs::write(&rt, "#!/bin/sh\necho \"kit $1\"\necho more\n").unwrap();
@@ -81,7 +81,7 @@ fn commit_and_toolchain() {
     place.git("repo", &["commit", "-q", "-m", "first"]);
     let commit = place.git("repo", &["rev-parse", "HEAD"]);
     assert_eq!(place.said(&all, None), [commit.as_str(), "kit version"]);
-    let library = place.0.join("repo/target/staticlib");
+    let library = place.0.join("repo/crates/capi/out");
     assert_eq!(place.said(&all, library.to_str())[1], "unknown", "a library from elsewhere");
     fs::write(place.0.join("repo/host/programs/src/lib.rs"), "// changed\n").unwrap();
     assert_eq!(place.said(&all, None)[0], format!("{commit}, with changes that are not committed"));

@@ -25,7 +25,7 @@ fn c_plus_plus_takes_the_header() {
 }
 
 /// The names of the numbers.
-const NUMBERS: [(&str, u64); 30] = [
+const NUMBERS: [(&str, u64); 26] = [
     ("PASSED", 0),
     ("SHORT", number::SHORT),
     ("MAGIC", number::MAGIC),
@@ -52,10 +52,6 @@ const NUMBERS: [(&str, u64); 30] = [
     ("REFERENCED", number::REFERENCED),
     ("ROWS", number::ROWS),
     ("SALVAGE", number::SALVAGE),
-    ("MISSING", number::MISSING),
-    ("ORDER", number::ORDER),
-    ("CHECK", number::CHECK),
-    ("TAIL", number::TAIL),
 ];
 
 /// The names of the fields of a piece.
@@ -106,7 +102,7 @@ fn the_manual_has_all() {
     let lines: Vec<&str> = manual.lines().collect();
     let functions = header.lines().filter(|line| line.starts_with("uint64_t ") || line.starts_with("void "));
     let functions: Vec<&str> = functions.map(|line| line.split(['(', ' ']).nth(1).unwrap()).collect();
-    assert_eq!(functions.len(), 12);
+    assert_eq!(functions.len(), 10);
     let (names, rest) = manual.split_once(".SH SYNOPSIS\n").unwrap();
     let (synopsis, described) = rest.split_once(".SH DESCRIPTION\n").unwrap();
     for function in functions {

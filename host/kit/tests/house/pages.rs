@@ -89,7 +89,7 @@ fn every_name_is_there() {
 }
 
 /// Words of the language, and variables.
-const WORDS: [&str; 5] = ["requires", "ensures", "s", "p", "answer"];
+const WORDS: [&str; 8] = ["requires", "ensures", "s", "p", "answer", "s.now", "s.old", "s.new"];
 
 /// What the names of a page are looked up in.
 struct Files<'a> {
@@ -249,9 +249,9 @@ fn is_left(layers: &str, place: &Place) -> bool {
     rows.any(|row| row.names.is_empty() || row.names.iter().any(|one| one.name == place.name && one.files == [&file]))
 }
 
-/// The gate as it is, over a stand-in for `rt` that ends with this status and one for the host tests: whether it
-/// passed, and its lines.
-fn gate(name: &str, proofs: u8, tests: u8) -> (bool, Vec<String>) {
+/// The gate as it is, over a stand-in for `rt` that ends with this status and says this of what it did, and one for the
+/// host tests: whether it passed, and its lines.
+fn gate(name: &str, proofs: u8, tests: u8, did: &str) -> (bool, Vec<String>) {
     let folder = tmp().join(name);
     let _ = fs::remove_dir_all(&folder);
     let script = |path: &str, text: &str| {
@@ -262,14 +262,19 @@ fn gate(name: &str, proofs: u8, tests: u8) -> (bool, Vec<String>) {
     };
     script(".ci/run", &fs::read_to_string(root().join(".ci/run")).unwrap());
     script("host/run-tests", &format!("#!/bin/sh\necho tested\nexit {tests}\n"));
-    let log =
-        "rt: wire proved (16 s)\nrt: audit proved (37 s)\nrt: rootmap proved (9 s)\nrt: rootmap ran as nobody (0 s)\n\
-        rt: must-fail wire/be8_past: refused, as it must be (first at src/number.rt:1:1; 3 s)\n\
-        rt: must-fail audit/full_table: refused, as it must be (4 s)";
+    let log = "== wire\nfn wire::finished: proved\nrt: wire proved\n\
+        rt: audit is kept: an earlier run on this machine proved the same files over the same libraries\n\
+        rt: rootmap proved\nrt: wire: trying its must-fail edits (1)\n\
+        rt: must-fail wire/be8_past.edit: refused, as it must be: src/number.rt:1:1: it is not proved\n\
+        rt: must-fail audit/full_table.edit: refused, as it must be\n\
+        rt: must-fail audit/lost.edit: BAD EDIT: an 'old:' text is in src/lib.rt 0 times, and not once\n\
+        rt: rootmap ran, and wrote what its file stdout has\n\
+        rt: rootmap ran (built by Rattle's own compiler), and wrote what its file stdout has";
+    let ok = if proofs == 0 { format!("rt: ok; handles allowed: none; {did}") } else { "rt: FAILED: wire".to_owned() };
     let last = format!("{} passed, {proofs} failed", 5 - proofs);
     script(
         "bin/rt",
-        &format!("#!/bin/sh\n[ \"$1\" = ci ] || exit 0\ncat <<'END'\n{log}\n{last}\nEND\nexit {proofs}\n"),
+        &format!("#!/bin/sh\n[ \"$*\" = ci ] || exit 3\ncat <<'END'\n{log}\n{ok}\n{last}\nEND\nexit {proofs}\n"),
     );
     let path = format!("{}:{}", folder.join("bin").display(), std::env::var("PATH").unwrap());
     let output = Command::new(folder.join(".ci/run")).env("PATH", path).output().unwrap();
@@ -277,20 +282,41 @@ fn gate(name: &str, proofs: u8, tests: u8) -> (bool, Vec<String>) {
     (output.status.success(), lines)
 }
 
-/// The gate's times stand before its last line, which is that of `rt ci`; a gate that failed has neither.
+/// What `rt ci` says where all was done in this run, and where some was kept.
+const ALL: &str = "must-fail edits: 2 refused; every proof and must-fail edit was done in this run";
+const SOME: &str = "must-fail edits: 2 refused, 1 of them only by a limit; done in this run: 2 of the 3 proofs (of crates \
+    and of their tests) and 1 of the 2 must-fail edits; the others are kept from earlier runs of the same files on this \
+    machine";
+
+/// The gate's times stand before its last line, which is that of `rt ci`.
 #[test]
 fn the_times_of_the_gate() {
-    let (passed, lines) = gate("gate_good", 0, 0);
-    let [.., parts, checks, row, last] = lines.as_slice() else { panic!("{lines:?}") };
-    assert!(passed && last == "5 passed, 0 failed", "{lines:?}");
-    assert!(parts.starts_with("gate: rt ci ") && parts.contains(" s, host tests ") && parts.ends_with(" s"), "{parts}");
-    assert_eq!(checks, "gate: 3 crates, 2 edits refused; longest checks: audit 37 s, wire 16 s, rootmap 9 s");
-    let cells: Vec<&str> = row.split('|').map(str::trim).collect();
-    assert_eq!((cells.len(), cells[0], cells[2], cells[3]), (6, "gate:", "3", "2"), "{row}");
-    assert!(cells[4].ends_with(" s; longest check `audit` 37 s"), "{row}");
-    for (name, proofs, tests) in [("gate_proofs", 1, 0), ("gate_tests", 0, 1)] {
-        let (passed, lines) = gate(name, proofs, tests);
+    let some = "done in this run: 2 of the 3 proofs (of crates and of their tests) and 1 of the 2 must-fail edits";
+    for (name, did, share) in [("gate_all", ALL, "all done in this run"), ("gate_some", SOME, some)] {
+        let (passed, lines) = gate(name, 0, 0, did);
+        let [.., parts, checks, row, last] = lines.as_slice() else { panic!("{lines:?}") };
+        assert!(passed && last == "5 passed, 0 failed", "{lines:?}");
+        assert!(parts.starts_with("gate: rt ci ") && parts.contains(" s, host tests "), "{parts}");
+        assert!(parts.ends_with(" s"), "{parts}");
+        assert_eq!(checks, &format!("gate: 3 crates, 2 edits refused; {share}"));
+        let cells: Vec<&str> = row.split('|').map(str::trim).collect();
+        assert_eq!((cells.len(), cells[0], cells[2], cells[3]), (6, "gate:", "3", "2"), "{row}");
+        assert!(cells[4].ends_with(&format!(" s; {share}")), "{row}");
+    }
+}
+
+/// A gate that failed has neither times nor that last line behind them: where a proof or a test failed, and where an edit
+/// could not be tried, which `rt ci` itself passes.
+#[test]
+fn a_gate_that_failed() {
+    let bad = "must-fail edits: 2 refused, 1 bad; every proof and must-fail edit was done in this run";
+    let both = SOME.replace("only by a limit;", "only by a limit, 12 bad;");
+    let tries =
+        [("gate_proofs", 1, 0, ALL), ("gate_tests", 0, 1, ALL), ("gate_bad", 0, 0, bad), ("gate_both", 0, 0, &both)];
+    for (name, proofs, tests, did) in tries {
+        let (passed, lines) = gate(name, proofs, tests, did);
         let is_said = lines.iter().any(|line| line.starts_with("gate: |"));
         assert!(!passed && !is_said && lines.last().is_some_and(|last| last != "5 passed, 0 failed"), "{lines:?}");
+        assert_eq!(lines.last().is_some_and(|last| last == "tested"), tests == 1, "{lines:?}");
     }
 }

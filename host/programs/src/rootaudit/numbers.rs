@@ -17,14 +17,13 @@ pub const LAST_OF_AUDIT: u64 = number::TWICE;
 
 const LOST: &str = "a block was lost or overwritten";
 const OPEN: &str = "the file was not closed as it should be";
-const CARD: &str = "read the card again; if that is refused too, keep it";
 const LEND: &str = "lend count rows, call again";
 
 const fn row(number: u64, wrong: &'static str, place: &'static str, because: &'static str, now: &'static str) -> Row {
     Row { number, wrong, place, because, now }
 }
 
-pub const TABLE: [Row; 29] = [
+pub const TABLE: [Row; 25] = [
     row(number::SHORT, "the file is shorter than its header, 100 bytes", "0", "a copy never got going", AGAIN),
     row(number::MAGIC, "it does not begin with \"root\"", "0", "it is another file, or its first block is lost", LOOK),
     row(
@@ -98,14 +97,7 @@ pub const TABLE: [Row; 29] = [
         "",
     ),
     row(number::FIELD, "the header would not be well formed, or a value does not fit its field", "0", "", ""),
-    row(
-        number::ROOM,
-        "SeekKey + Nbytes lies beyond the buffer; a card or its file beyond the output; or a card would have \
-         more than 4,294,967,296 blocks",
-        "0",
-        "",
-        "",
-    ),
+    row(number::ROOM, "SeekKey + Nbytes lies beyond the buffer", "0", "", ""),
     row(number::DATE, "a date field is not in its range", "0", "", ""),
     row(number::PACKED, "the info record is packed", "the record", "", ""),
     row(number::NOT_INFO, "the piece is no info record", "the place", "", ""),
@@ -119,15 +111,5 @@ pub const TABLE: [Row; 29] = [
         "the fault",
         "",
         "",
-    ),
-    row(number::MISSING, "a block of the card is missing or incomplete", "0", "", CARD),
-    row(number::ORDER, "a block of the card has another number than its own", "0", "", CARD),
-    row(number::CHECK, "a block of the card has another check than its bytes", "0", "", CARD),
-    row(
-        number::TAIL,
-        "on the card END is below 100, bytes follow the last block, or one behind the file in its block is not 0",
-        "0",
-        "",
-        CARD,
     ),
 ];
