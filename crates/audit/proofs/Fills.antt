@@ -11,6 +11,7 @@ use borrow.Author.Tests.{eq-eqb, ne_eqb}
 use lib.Dec.{eqb}
 use lib.ListN.{length, take, set, get_or, length-map, length-set, drop_of_length-le, get_or-eq_default}
 use lib.Seq.{take-suc, take_all, length-take-le, get_or-set_same, get_or-set_other, ext_get_or}
+use Rattle.std.specs.Prelude.{Option, Some, None}
 use Rattle.wire.specs.Check.{pick}
 use Rattle.wire.specs.Patch.{patch}
 use Rattle.wire.proofs.Checks.{below_or}
@@ -22,8 +23,6 @@ use Rattle.rules.specs.Turn.{first_part, first_parts}
 use Rattle.rules.proofs.Begins.{map_at}
 use Rattle.rules.proofs.Items.{same?}
 use Rattle.rows.specs.Row.{Rises, RowOf}
-use Rattle.rows.specs.declared.Row.{Row}
-use Rattle.rows.specs.declared.Row.TheVariants.{At, Nothing}
 use Rattle.waiting.specs.Waiting.{parts_in, Keeps}
 use Rattle.waiting.specs.declared.Waiting.{Waiting}
 use Rattle.waiting.proofs.Trees.{bare_parts}
@@ -83,11 +82,11 @@ unfolding first_part
 first_head s h q e = rw (eq-eqb q 100 e)
 
 -- the row that was sought
-pub found_row : (qs : List ℕ) {r : Row} {i : ℕ} → RowOf qs 100 r → r ≡ At i → (i < length qs) × (get_or qs i 0 ≡ 100)
+pub found_row : (qs : List ℕ) {r : Option ℕ} {i : ℕ} → RowOf qs 100 r → r ≡ Some i → (i < length qs) × (get_or qs i 0 ≡ 100)
 found_row qs h e = rw e at h
 
-pub no_found_row : (qs : List ℕ) {r : Row} → Rises qs → RowOf qs 100 r → r ≡ Nothing → (i : ℕ) → i < length qs → get_or qs i 0 ≡ 100 → ⊥
-no_found_row qs up h e = let g : RowOf qs 100 Nothing = rw e at h in g up
+pub no_found_row : (qs : List ℕ) {r : Option ℕ} → Rises qs → RowOf qs 100 r → r ≡ None → (i : ℕ) → i < length qs → get_or qs i 0 ≡ 100 → ⊥
+no_found_row qs up h e = let g : RowOf qs 100 None = rw e at h in g up
 
 module _ (s : List ℕ) (h : FileHead) (qs : List ℕ) where
   first_at : (i : ℕ) → i < length qs → get_or (first_parts s h qs) i 0 ≡ first_part s h (get_or qs i 0)

@@ -8,62 +8,76 @@ use native.Mathlib.Omega.{arith}
 use borrow.Author.Tests.{eq-eqb, ne_eqb}
 use lib.ListN.{length, get_or, set}
 use lib.Seq.{get_or-set_same, set-set}
+use Rattle.std.specs.Prelude.{Result, Ok, Err}
+use Rattle.wire.specs.Fault.{fault, fault_answer, needed_of}
+use Rattle.wire.specs.declared.Answer.{Answer}
+use Rattle.wire.specs.declared.fault.Fault.{Fault}
+use Rattle.wire.specs.declared.fault.Reason.TheVariants as reason
 use Rattle.wire.proofs.Checks.{below_or, false_true}
 use Rattle.record.proofs.Tests.{passed}
-use Rattle.rules.specs.Turn.{Turn, going, stop, and_then, copies}
+use Rattle.rules.specs.Turn.{Turn, going, stop, stop_at, and_then, copies}
 use Rattle.copies.specs.Copy.{given, entry_step, Tests}
 use Rattle.copies.specs.declared.Span.{Span}
 use Rattle.copies.specs.declared.Claim.{Claim}
-use Rattle.copies.specs.declared.Entry.{Entry}
-use Rattle.copies.specs.declared.Entry.TheVariants as entry
 use Rattle.waiting.specs.Waiting.{parts_in, Keeps}
 use Rattle.waiting.specs.declared.Waiting.{Waiting}
 use Rattle.waiting.proofs.Trees.{part_at, parts_size}
 use Rattle.audit.specs.Listing.{Sized, Tables, Ran, Told, Went, Assigns, Marks, copies_step}
+use Rattle.audit.specs.Rows.{Same}
 use Rattle.audit.specs.declared.keys.Listed.{Listed}
-use Rattle.audit.specs.declared.keys.Listed.TheVariants.{Next, Fault}
+use Rattle.audit.specs.declared.keys.Rows.{Rows}
 
 -- an answer that is a turn's
-pub went : (qs p vs : List ℕ) (c : ℕ) (w : Waiting) {x : Turn} → x ≡ going (parts_in p) vs c → Keeps qs p w → Went qs x (Next c w) p vs
+pub went : (qs p vs : List ℕ) (l : Listed) {x : Turn} → x ≡ going (parts_in p) vs l.next → Keeps qs p l.waiting → Went qs x (Ok l) p vs
 unfolding Ran Told
-went qs p vs c w e k = (rw e (refl, (refl, refl)), k)
+went qs p vs l e k = (rw e (refl, (refl, refl)), k)
 
-pub ran_fault : (us vs : List ℕ) (n q : ℕ) {x : Turn} → x ≡ stop n q → Ran x (Fault n q) us vs
+-- a refusal that counts nothing
+pub ran_fault : (us vs : List ℕ) (f : Fault) {x : Turn} → needed_of f.reason ≡ 0 → x ≡ stop_at (fault_answer f) → Ran x (Err f) us vs
 unfolding Ran
-ran_fault us vs n q e = rw e (refl, refl)
+ran_fault us vs f z e = rw e (λ i. record { number = (fault_answer f).number; place = f.place; count = z i })
 
-pub faulted : (qs p vs : List ℕ) (n q : ℕ) {x : Turn} → x ≡ stop n q → Went qs x (Fault n q) p vs
+pub faulted : (qs p vs : List ℕ) (f : Fault) {x : Turn} → needed_of f.reason ≡ 0 → x ≡ stop_at (fault_answer f) → Went qs x (Err f) p vs
 unfolding Told
-faulted qs p vs n q e = (ran_fault (parts_in p) vs n q e, tt)
+faulted qs p vs f z e = (ran_fault (parts_in p) vs f z e, tt)
 
-pub next_is : (x : Turn) (us vs : List ℕ) {r : Listed} {at : ℕ} {w : Waiting} → r ≡ Next at w → Ran x r us vs → x ≡ going us vs at
+pub next_is : (x : Turn) (us vs : List ℕ) (l : Listed) → Ran x (Ok l) us vs → x ≡ going us vs l.next
 unfolding Ran
-next_is x us vs {r} {at} {w} e h = go x (rw e at h)
-  where
-    go : (x : Turn) → Ran x (Next at w) us vs → x ≡ going us vs at
-    go (going ps os c) h = sym (λ i. going (h.1.0 i) (h.1.1 i) (h.0 i))
-    go (stop n p) h = absurd h
+next_is (going ps os c) us vs l h = sym (λ i. going (h.1.0 i) (h.1.1 i) (h.0 i))
+next_is (stop n p) us vs l h = absurd h
 
-pub fault_is : (x : Turn) (us vs : List ℕ) {r : Listed} {n p : ℕ} → r ≡ Fault n p → Ran x r us vs → x ≡ stop n p
+pub fault_is : (x : Turn) (us vs : List ℕ) (f : Fault) → Ran x (Err f) us vs → (x ≡ stop_at (fault_answer f)) × (needed_of f.reason ≡ 0)
 unfolding Ran
-fault_is x us vs {r} {n} {p} e h = go x (rw e at h)
-  where
-    go : (x : Turn) → Ran x (Fault n p) us vs → x ≡ stop n p
-    go (going ps os c) h = absurd h
-    go (stop m q) h = sym (λ i. stop (h.0 i) (h.1 i))
+fault_is (going ps os c) us vs f h = absurd h
+fault_is (stop n p) us vs f h = (sym (ap stop_at h), ap (λ (a : Answer). a.count) h)
 
-pub told_is : (qs p : List ℕ) {r : Listed} {at : ℕ} {w : Waiting} → r ≡ Next at w → Told qs p r → Keeps qs p w
+pub told_is : (qs p : List ℕ) (l : Listed) → Told qs p (Ok l) → Keeps qs p l.waiting
 unfolding Told
-told_is qs p e h = rw e at h
+told_is qs p l h = h
 
 -- a turn that stopped, and goes on stopped
-pub stays_stopped : (qs p vs : List ℕ) (r : Listed) {n q : ℕ} {x y : Turn} → r ≡ Fault n q → Ran x r (parts_in p) vs
-    → (x ≡ stop n q → y ≡ stop n q) → Went qs y r p vs
-stays_stopped qs p vs r {n} {q} {x} e h f = rw e (faulted qs p vs n q (f (fault_is x (parts_in p) vs e h)))
+pub stays_stopped : (qs p vs : List ℕ) (f : Fault) {x y : Turn} → Ran x (Err f) (parts_in p) vs
+    → (x ≡ stop_at (fault_answer f) → y ≡ stop_at (fault_answer f)) → Went qs y (Err f) p vs
+stays_stopped qs p vs f {x} h g = let k = fault_is x (parts_in p) vs f h in faulted qs p vs f k.1 (g k.0)
 
 -- tables of the same lengths
 pub sized_kept : {qs p os us vs : List ℕ} → Sized qs p os → length us ≡ length p → length vs ≡ length os → Sized qs us vs
 sized_kept t e f = record { rising = t.rising; parts = e ∙ t.parts; owners = f ∙ t.owners }
+
+-- the same tables, from one step to the next
+pub same_self : {a : Rows} → Same a a
+same_self = record { file = refl; head = refl; start = refl; part = refl; owner = refl; parts = refl; owners = refl }
+
+pub same_then : {a b c : Rows} → Same a b → Same b c → Same a c
+same_then x y = record {
+  file = y.file ∙ x.file;
+  head = y.head ∙ x.head;
+  start = y.start ∙ x.start;
+  part = y.part ∙ x.part;
+  owner = y.owner ∙ x.owner;
+  parts = y.parts ∙ x.parts;
+  owners = y.owners ∙ x.owners;
+}
 
 -- a record that has a part, and one that has none
 module _ (p os : List ℕ) (g : Claim) where
@@ -140,11 +154,11 @@ began s l count from t = record { run = refl; tables = t }
 
 module _ {s qs : List ℕ} {l : Span} {count from : ℕ} {ps os : List ℕ} {left at : ℕ} {p vs : List ℕ} {w : Waiting}
     (c : Copying s qs l count from ps os left at p vs w) where
-  pub all_copied : left ≡ 0 → Went qs (copies_step s qs l count from ps os) (Next at w) p vs
+  pub all_copied : left ≡ 0 → Went qs (copies_step s qs l count from ps os) (Ok (record { next = at; waiting = w })) p vs
   unfolding copies
-  all_copied e = went qs p vs at w (c.run ∙ ap (λ (n : ℕ). copies_step s qs l n at (parts_in p) vs) e) c.tables.waiting
+  all_copied e = went qs p vs (record { next = at; waiting = w }) (c.run ∙ ap (λ (n : ℕ). copies_step s qs l n at (parts_in p) vs) e) c.tables.waiting
 
-  module _ (o : 0 < left) {x : Entry} (t : Tests s qs l at x) where
+  module _ (o : 0 < left) {x : Result Claim Fault} (t : Tests s qs l at x) where
     -- the rest, from what the test gave
     by_test : {y : Turn} → entry_step x (parts_in p) vs ≡ y
         → copies_step s qs l count from ps os ≡ and_then (copies s qs l.dir l.seek l.end (left - 1)) y
@@ -154,19 +168,19 @@ module _ {s qs : List ℕ} {l : Span} {count from : ℕ} {ps os : List ℕ} {lef
         c.run ∙ ap (λ (n : ℕ). copies_step s qs l n at (parts_in p) vs) f
         ∙ ap (and_then (copies s qs l.dir l.seek l.end (left - 1))) (t.step c.tables.sized.rising (parts_in p) vs ∙ e)
 
-    as_test : {y : Entry} → x ≡ y → entry_step x (parts_in p) vs ≡ entry_step y (parts_in p) vs
-    as_test e = ap (λ (z : Entry). entry_step z (parts_in p) vs) e
+    as_test : {y : Result Claim Fault} → x ≡ y → entry_step x (parts_in p) vs ≡ entry_step y (parts_in p) vs
+    as_test e = ap (λ (z : Result Claim Fault). entry_step z (parts_in p) vs) e
 
-    pub test_stopped : (us ws : List ℕ) {n q : ℕ} → x ≡ entry.Fault n q → Went qs (copies_step s qs l count from ps os) (Fault n q) us ws
-    test_stopped us ws {n} {q} e = faulted qs us ws n q (by_test (as_test e))
+    pub test_stopped : (us ws : List ℕ) {f : Fault} → x ≡ Err f → Went qs (copies_step s qs l count from ps os) (Err f) us ws
+    test_stopped us ws {f} e = faulted qs us ws f (t.bare f e) (by_test (as_test e))
 
-    module _ {g : Claim} (e : x ≡ entry.Fits g) where
+    module _ {g : Claim} (e : x ≡ Ok g) where
       pub claim_ready : (g.row < length p) × (length vs ≡ length p)
       claim_ready = let z = c.tables.sized in (omega (arith, t.row g e, z.parts), z.owners ∙ sym z.parts)
 
       module _ {us ws : List ℕ} {b : Bool} (a : Assigns p vs us ws g b) where
-        pub claim_stopped : (xs ys : List ℕ) → not b ≡ true → Went qs (copies_step s qs l count from ps os) (Fault 14 g.place) xs ys
-        claim_stopped xs ys h = faulted qs xs ys 14 g.place (by_test (as_test e ∙ claim_late a h))
+        pub claim_stopped : (xs ys : List ℕ) → not b ≡ true → Went qs (copies_step s qs l count from ps os) (Err (fault reason.Twice g.place)) xs ys
+        claim_stopped xs ys h = faulted qs xs ys (fault reason.Twice g.place) refl (by_test (as_test e ∙ claim_late a h))
 
         pub copied : not b ≡ false → {xs : List ℕ} {v : Waiting} → Marks qs us xs g w v → length us ≡ length p → length xs ≡ length us
             → length ws ≡ length vs → Copying s qs l count from ps os (left - 1) g.next xs ws v

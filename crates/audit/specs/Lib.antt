@@ -1,3 +1,4 @@
 pub mod Examined
 pub mod Listing
+pub mod Rows
 pub mod Tables

@@ -1,7 +1,9 @@
 -- Only private functions and proofs use these: what a step over the directories answers, and what the tables of parts and owners
 -- hold then.
-use Rattle.std.specs.Prelude.{ℕ, ◌+◌, ◌%◌, ◌<◌, ◌≤◌, Bool, true, List, map, ◌≡◌, eqb, length, get_or, set, replicate}
-use Rattle.wire.specs.Lent.{Lent, MutLent, held, before, after}
+use Rattle.std.specs.Prelude.{ℕ, ◌+◌, ◌%◌, ◌<◌, ◌≤◌, Bool, true, List, map, ◌≡◌, eqb, length, get_or, set, replicate, Result, Ok, Err}
+use Rattle.wire.specs.Answer.{refusal}
+use Rattle.wire.specs.Fault.{fault_answer}
+use Rattle.wire.specs.declared.fault.Fault.{Fault}
 use Rattle.fileheader.specs.declared.FileHead.{FileHead}
 use Rattle.rows.specs.Row.{Rises}
 use Rattle.rules.specs.Part.{dir, unlisted}
@@ -12,7 +14,6 @@ use Rattle.copies.specs.Copy.{Step}
 use Rattle.copies.specs.declared.Claim.{Claim}
 use Rattle.copies.specs.declared.Span.{Span}
 use Rattle.audit.specs.declared.keys.Listed.{Listed}
-use Rattle.audit.specs.declared.keys.Listed.TheVariants.{Next, Fault}
 
 -- three tables of one length, the starts rising
 pub record Sized (start part owner : List ℕ) : Type 0 where
@@ -37,23 +38,20 @@ abbrev pub rest_parts : List ℕ → FileHead → List ℕ → List ℕ
 rest_parts s h qs = map (rest_part s h) qs
 
 -- the turn of a step over parts and owners: the answer, and the parts and owners then, are its; a refusal leaves them free
-unfoldable pub Ran : Turn → Listed → List ℕ → List ℕ → Type 0
-Ran (going ps os c) (Next at w) us vs = (at ≡ c) × ((us ≡ ps) × (vs ≡ os))
-Ran (going ps os c) (Fault n p) us vs = ⊥
-Ran (stop n p) (Next at w) us vs = ⊥
-Ran (stop n p) (Fault m q) us vs = (m ≡ n) × (q ≡ p)
+unfoldable pub Ran : Turn → Result Listed Fault → List ℕ → List ℕ → Type 0
+Ran (going ps os c) (Ok l) us vs = (l.next ≡ c) × ((us ≡ ps) × (vs ≡ os))
+Ran (going ps os c) (Err f) us vs = ⊥
+Ran (stop n p) (Ok l) us vs = ⊥
+Ran (stop n p) (Err f) us vs = fault_answer f ≡ refusal n p
 
 -- what is told of the directories found and not done is right for the tables then
-unfoldable pub Told : List ℕ → List ℕ → Listed → Type 0
-Told qs p (Next at w) = Keeps qs p w
-Told qs p (Fault n q) = Unit
+unfoldable pub Told : List ℕ → List ℕ → Result Listed Fault → Type 0
+Told qs p (Ok l) = Keeps qs p l.waiting
+Told qs p (Err f) = Unit
 
 -- a turn, with the table of parts and the owners at its end
-abbrev pub Went : List ℕ → Turn → Listed → List ℕ → List ℕ → Type 0
+abbrev pub Went : List ℕ → Turn → Result Listed Fault → List ℕ → List ℕ → Type 0
 Went qs x r p vs = Ran x r (parts_in p) vs × Told qs p r
-
-abbrev pub Runs : Step → Lent → MutLent → MutLent → Listed → Type 0
-Runs step start part owner r = Went (held start) (step (parts_in (before part)) (before owner)) r (after part) (after owner)
 
 -- a record that is unlisted so far is given part and owner, the mark apart; and then the mark, where it is a directory
 pub record Assigns (p os us vs : List ℕ) (g : Claim) (r : Bool) : Type 0 where
@@ -75,5 +73,5 @@ abbrev pub data_step : List ℕ → List ℕ → Span → ℕ → Step
 data_step s qs l a ps os = data_turn s qs l.dir l.seek a l.end ps os (a + 4)
 
 -- all directories
-abbrev pub rounds_from : List ℕ → FileHead → List ℕ → MutLent → MutLent → Turn
-rounds_from s h qs part owner = rounds s h qs (length qs) (parts_in (before part)) (before owner) 0
+abbrev pub rounds_from : List ℕ → FileHead → List ℕ → List ℕ → List ℕ → Turn
+rounds_from s h qs p os = rounds s h qs (length qs) (parts_in p) os 0

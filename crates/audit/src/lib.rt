@@ -1,16 +1,15 @@
 // The audit of a whole file.
 #![tactic(auto)]
 
+ghost use Rattle.wire.specs.Fault.{answer_of};
 ghost use Rattle.audit.specs.Examined.{Examines};
 ghost use Rattle.audit.specs.Tables.{Audits, AuditsSalvaged, AuditsFor, AuditsWithin};
 
-use chain::{Outcome, walk};
-use fileheader::{Opened, open};
-use keys::Listed;
+use chain::walk;
+use fileheader::open;
 use survey::survey;
 use table::clear;
-use wire::number::least;
-use wire::{Answer, finished, refused};
+use wire::fault::{Fault, Reason};
 
 mod keys;
 mod rounds;
@@ -24,35 +23,28 @@ fn examine(
     owner: &mut [u64],
     limit: usize,
     compare: bool,
-) -> Answer
-    ensures { Examines compare limit file start part owner result }
+) -> Result<usize, Fault>
+    ensures { Examines compare limit file start part owner (answer_of result) }
 {
-    let head = match open(file) {
-        Opened::Good(h) => h,
-        Opened::Refused(c) => return refused(c as u64, 0),
-    };
-    let n = match walk(file, start) {
-        Outcome::Whole(n) => n,
-        Outcome::Fault(c, p) => return refused(c as u64, p as u64),
-    };
-    if least(limit, least(start.len(), least(part.len(), owner.len()))) < n {
-        return Answer {
-            number: 7,
+    let head = open(file)?;
+    let n = walk(file, start)?;
+    let room = limit.min(start.len().min(part.len().min(owner.len())));
+    if room < n {
+        let unfinished = Fault {
+            reason: Reason::Unfinished(n as u64),
             place: 0,
-            count: n as u64,
         };
+        return Err(unfinished);
     }
-    match survey(
+    survey(
         file,
         &start[..n],
         &mut part[..n],
         &mut owner[..n],
         head,
         compare,
-    ) {
-        Listed::Next(_, _) => finished(n as u64),
-        Listed::Fault(c, p) => refused(c as u64, p as u64),
-    }
+    )?;
+    Ok(n)
 }
 
 // Audits a file: the verdict, which means what the third demand says, for the least of a limit and the tables' lengths; free segments are
@@ -65,18 +57,15 @@ pub fn audit_within(
     owner: &mut [u64],
     limit: usize,
     compare: bool,
-) -> Answer
-    ensures { AuditsWithin compare limit file start part owner result }
+) -> Result<usize, Fault>
+    ensures { AuditsWithin compare limit file start part owner (answer_of result) }
 {
-    let a = examine(file, start, part, owner, limit, compare);
-    let mut n: usize = 0;
-    if a.number == 0 {
-        n = a.count as usize;
-    }
+    let r = examine(file, start, part, owner, limit, compare);
+    let n = r.unwrap_or(0);
     clear(start, n);
     clear(part, n);
     clear(owner, n);
-    a
+    r
 }
 
 // Either audit with no limit but the tables.
@@ -86,24 +75,34 @@ fn audit_as(
     part: &mut [u64],
     owner: &mut [u64],
     compare: bool,
-) -> Answer
-    ensures { AuditsFor file start part owner compare result }
+) -> Result<usize, Fault>
+    ensures { AuditsFor file start part owner compare (answer_of result) }
 {
     let limit = start.len();
     audit_within(file, start, part, owner, limit, compare)
 }
 
 // The first audit of a file: the verdict and the rows as above, with no limit but the tables; free segments are compared with the gaps.
-pub fn audit(file: &[u8], start: &mut [u64], part: &mut [u64], owner: &mut [u64]) -> Answer
-    ensures { Audits file start part owner result }
+pub fn audit(
+    file: &[u8],
+    start: &mut [u64],
+    part: &mut [u64],
+    owner: &mut [u64],
+) -> Result<usize, Fault>
+    ensures { Audits file start part owner (answer_of result) }
 {
     audit_as(file, start, part, owner, true)
 }
 
 // The second audit, for a file that was salvaged: the same, but free segments are not compared with the gaps, and the third demand is
 // without that rule.
-pub fn audit_salvaged(file: &[u8], start: &mut [u64], part: &mut [u64], owner: &mut [u64]) -> Answer
-    ensures { AuditsSalvaged file start part owner result }
+pub fn audit_salvaged(
+    file: &[u8],
+    start: &mut [u64],
+    part: &mut [u64],
+    owner: &mut [u64],
+) -> Result<usize, Fault>
+    ensures { AuditsSalvaged file start part owner (answer_of result) }
 {
     audit_as(file, start, part, owner, false)
 }

@@ -6,28 +6,19 @@ ghost use Rattle.wire.specs.Number.{be_bytes};
 ghost use Rattle.buffer.specs.Store.{put_front};
 
 // Copies bytes to the front of a part; where it is shorter than they are it stays as it was.
+#[tactic(auto, using(crate::proofs::Stores::copied, crate::proofs::Stores::put_out))]
 pub fn copy(part: &mut [u8], from: &[u8])
     ensures { part.new ≡ put_front part.old from.now }
 {
-    if part.len() < from.len() {
-        return;
-    }
-    let mut i: usize = 0;
-    while i < from.len() {
-        part[i] = from[i];
-        i += 1;
+    if from.len() <= part.len() {
+        part[..from.len()].copy_from_slice(from);
     }
 }
 
 // Writes a number as four bytes at the front of a part; where it has fewer it stays as it was.
+#[tactic(auto, using(crate::proofs::Stores::four_bytes))]
 pub fn put32(part: &mut [u8], v: u32)
     ensures { part.new ≡ put_front part.old (be_bytes 4 v) }
 {
-    if part.len() < 4 {
-        return;
-    }
-    part[0] = (v / 16777216) as u8;
-    part[1] = (v / 65536 % 256) as u8;
-    part[2] = (v / 256 % 256) as u8;
-    part[3] = (v % 256) as u8;
+    copy(part, &v.to_be_bytes());
 }

@@ -5,14 +5,16 @@ use mathlib.Core.Path.{◌≡◌, sym, ap, subst, ◌∙◌}
 use lib.IntN.{ℤ}
 use Rattle.wire.specs.Number.{bits16}
 use Rattle.wire.specs.declared.Answer.{Answer}
-use Rattle.wire.specs.declared.number.Bits.{Bits}
+use Rattle.std.specs.Prelude.{Option}
 use Rattle.key.specs.Piece.{answer_of}
 use Rattle.key.specs.Writer.{Reads, Writes}
+use Rattle.std.specs.Prelude.{Result}
+use Rattle.wire.specs.declared.fault.Fault.{Fault}
 use Rattle.key.specs.declared.piece.Piece.{Piece}
 use Rattle.capi.specs.Told.{piece_list, Shows, held_bits, stored_cycle, fields_of}
 
 -- q is the piece that was read at p
-pub shown : (s : List ℕ) (p : ℕ) {r : Piece} (q : Piece) {fields : List ℕ} → Reads s p r → r ≡ q → fields ≡ piece_list q
+pub shown : (s : List ℕ) (p : ℕ) {r : (Result Piece Fault)} (q : Result Piece Fault) {fields : List ℕ} → Reads s p r → r ≡ q → fields ≡ piece_list q
     → Shows s p fields (answer_of q)
 shown s p q h e f = record {
   answer = ap answer_of (sym e) ∙ h.answer;
@@ -20,7 +22,7 @@ shown s p q h e f = record {
   reads = subst (Reads s p) h.piece h;
 }
 
-pub cycle_bits : {b c : Bits} {y z : ℤ} → b ≡ c → b ≡ bits16 y → y ≡ z → held_bits c ≡ stored_cycle z
+pub cycle_bits : {b c : (Option ℕ)} {y z : ℤ} → b ≡ c → b ≡ bits16 y → y ≡ z → held_bits c ≡ stored_cycle z
 unfolding stored_cycle
 cycle_bits e f i = ap held_bits (sym e ∙ f ∙ ap bits16 i)
 

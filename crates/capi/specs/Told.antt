@@ -1,20 +1,19 @@
 -- What the C functions hand back.
-use Rattle.std.specs.Prelude.{ℕ, List, [], ◌∷◌, ◌≡◌, replicate, ℤ}
+use Rattle.std.specs.Prelude.{ℕ, List, [], ◌∷◌, ◌≡◌, replicate, ℤ, Option, Some, None, Result, Ok, Err}
 use Rattle.std.specs.Borrow.{MutBor}
 use denote.Triple.Both.{Both}
 use Rattle.wire.specs.Answer.{done}
 use Rattle.wire.specs.Number.{bits16}
 use Rattle.wire.specs.declared.Answer.{Answer}
-use Rattle.wire.specs.declared.number.Bits.{Bits}
-use Rattle.wire.specs.declared.number.Bits.TheVariants.{Held, Wide}
 use Rattle.date.specs.Date.{pack_answer, unpacked}
 use Rattle.date.specs.declared.Date.{Date}
 use Rattle.key.specs.Piece.{piece_at, piece_answer}
 use Rattle.key.specs.Writer.{Reads}
 use Rattle.key.specs.declared.header.Fields.{Fields}
 use Rattle.key.specs.declared.header.Key.{Key}
+use Rattle.wire.specs.declared.fault.Fault.{Fault}
 use Rattle.key.specs.declared.piece.Piece.{Piece}
-use Rattle.key.specs.declared.piece.Piece.TheVariants.{Record, Gap, Refused}
+use Rattle.key.specs.declared.piece.Piece.TheVariants.{Record, Gap}
 
 -- a number behind a pointer, at the call and at the return
 abbrev pub Cell : Type 0
@@ -46,9 +45,9 @@ fields_of nbytes version objlen datime cycle seekkey seekpdir = record {
   seekpdir = seekpdir;
 }
 
-abbrev pub held_bits : Bits → ℕ
-held_bits (Held n) = n
-held_bits Wide = 0
+abbrev pub held_bits : Option ℕ → ℕ
+held_bits (Some n) = n
+held_bits None = 0
 
 -- a cycle as its 16 stored bits
 unfoldable pub stored_cycle : ℤ → ℕ
@@ -61,10 +60,10 @@ record_list k =
     ∷ k.class.start ∷ k.class.len ∷ k.name.start ∷ k.name.len ∷ k.title.start ∷ k.title.len ∷ []
 
 -- the fifteen numbers of a piece: 1 and a record's fields and strings; 2 and a gap's size; zeros for a refusal
-abbrev pub piece_list : Piece → List ℕ
-piece_list (Record k) = record_list k
-piece_list (Gap n) = 2 ∷ n ∷ replicate 13 0
-piece_list (Refused c p) = replicate 15 0
+abbrev pub piece_list : Result Piece Fault → List ℕ
+piece_list (Ok (Record k)) = record_list k
+piece_list (Ok (Gap n)) = 2 ∷ n ∷ replicate 13 0
+piece_list (Err f) = replicate 15 0
 
 -- the piece at p of the bytes s, as C gets it, with the reader's promise
 pub record Shows (s : List ℕ) (p : ℕ) (fields : List ℕ) (a : Answer) : Type 0 where

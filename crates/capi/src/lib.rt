@@ -2,7 +2,9 @@
 // pointer and a length. The number is returned; place and count are written in every case.
 #![tactic(auto)]
 
-ghost use Rattle.std.specs.Prelude.{◌≡◌};
+ghost use Rattle.std.specs.Prelude.{◌≡◌, Ok};
+ghost use Rattle.wire.specs.Fault.{answer_of};
+ghost use Rattle.key.specs.Piece.{size_of};
 ghost use Rattle.version.specs.Version.{library_version};
 ghost use Rattle.date.specs.Date.{Packs};
 ghost use Rattle.key.specs.Writer.{Writes};
@@ -13,13 +15,24 @@ ghost use Rattle.view.specs.View.{Views};
 ghost use Rattle.salvage.specs.Salvage.{Salvages};
 ghost use Rattle.card.specs.Promise.{ReadsCard};
 ghost use Rattle.cardwriter.specs.Write.{WritesCard};
-ghost use Rattle.capi.specs.Told.{told, date_of, Unpacked, fields_of, stored_cycle, record_list, Shows};
+ghost use Rattle.capi.specs.Told.{told, date_of, Unpacked, fields_of, stored_cycle, record_list, piece_list, Shows};
 
 use date::Date;
 use key::header::{Fields, Key};
 use key::piece::Piece;
 use view::Row;
-use wire::number::Bits;
+use wire::Answer;
+use wire::fault::Fault;
+
+// Tells C what was counted, or the refusal: number, place and count.
+fn tell(r: Result<usize, Fault>, place: &mut u64, count: &mut u64) -> u64
+    ensures { told result place count ≡ answer_of r }
+{
+    let a = Answer::from(r);
+    *place = a.place;
+    *count = a.count;
+    a.number
+}
 
 // The version of the library.
 #[unsafe(no_mangle)]
@@ -43,7 +56,7 @@ pub extern "C" fn rootmap_pack_date(
 ) -> u64
     ensures { Packs (date_of year month day hour minute second) (told result place count) }
 {
-    let a = date::pack_date(Date {
+    let packed = date::pack_date(Date {
         year,
         month,
         day,
@@ -51,9 +64,7 @@ pub extern "C" fn rootmap_pack_date(
         minute,
         second,
     });
-    *place = a.place;
-    *count = a.count;
-    a.number
+    tell(packed.map(|n| n as usize), place, count)
 }
 
 // Unpacks any 32 bits: year, month, day, hour, minute, second.
@@ -70,8 +81,8 @@ fn stored_cycle(z: i32) -> u64
     ensures { result ≡ stored_cycle z }
 {
     match wire::number::bits_of(z) {
-        Bits::Held(n) => n as u64,
-        Bits::Wide => 0,
+        Some(n) => n as u64,
+        None => 0,
     }
 }
 
@@ -102,6 +113,31 @@ fn show_record(k: Key, fields: &mut [u64; 15])
     ];
 }
 
+// The bytes that a piece takes.
+fn size_of(piece: Piece) -> usize
+    ensures { result ≡ size_of (Ok piece) }
+{
+    match piece {
+        Piece::Record(k) => k.nbytes as usize,
+        Piece::Gap(n) => n as usize,
+    }
+}
+
+// Writes the fifteen numbers of a piece; a refusal's are zeros.
+fn show_piece(piece: Result<Piece, Fault>, fields: &mut [u64; 15])
+    ensures { fields.new ≡ piece_list piece }
+{
+    *fields = [0; 15];
+    match piece {
+        Ok(Piece::Record(k)) => show_record(k, fields),
+        Ok(Piece::Gap(n)) => {
+            fields[0] = 2;
+            fields[1] = n as u64;
+        }
+        Err(_) => (),
+    }
+}
+
 // The piece at a place: 0 and its size as count, with its fields; or 5 or 6 at the place, with zeros.
 #[unsafe(no_mangle)]
 pub extern "C" fn rootmap_read_piece(
@@ -113,26 +149,9 @@ pub extern "C" fn rootmap_read_piece(
 ) -> u64
     ensures { Shows file.now at fields.new (told result place count) }
 {
-    match key::piece::read_piece(file, at as usize) {
-        Piece::Record(k) => {
-            show_record(k, fields);
-            *place = 0;
-            *count = k.nbytes as u64;
-            0
-        }
-        Piece::Gap(n) => {
-            *fields = [2, n as u64, 0, 0, 0, 0, 0, 0, 0, 0, 0, 0, 0, 0, 0];
-            *place = 0;
-            *count = n as u64;
-            0
-        }
-        Piece::Refused(c, p) => {
-            *fields = [0, 0, 0, 0, 0, 0, 0, 0, 0, 0, 0, 0, 0, 0, 0];
-            *place = p as u64;
-            *count = 0;
-            c as u64
-        }
-    }
+    let piece = key::piece::read_piece(file, at as usize);
+    show_piece(piece, fields);
+    tell(piece.map(size_of), place, count)
 }
 
 // Writes a key header at seek_key: 0 and KeyLen as count; or 15, 16 or 17, with the buffer unchanged.
@@ -164,10 +183,8 @@ pub extern "C" fn rootmap_write_key(
         seekkey: seek_key,
         seekpdir: seek_pdir,
     };
-    let w = writer::write_key(f, class_name, name, title, buf);
-    *place = w.place;
-    *count = w.count;
-    w.number
+    let written = writer::write_key(f, class_name, name, title, buf);
+    tell(written, place, count)
 }
 
 // The rows of the StreamerInfo record at a place, six numbers each: 0 and the rows as count; or 5, 6 or 19 to 24, with zeros.
@@ -181,10 +198,7 @@ pub extern "C" fn rootmap_info(
 ) -> u64
     ensures { Informs file at table (told result place count) }
 {
-    let i = streamer::read_info(file, at as usize, table);
-    *place = i.place;
-    *count = i.count;
-    i.number
+    tell(streamer::read_info(file, at as usize, table), place, count)
 }
 
 // Audits a whole file: 0 and the number of pieces, with a row a piece in the three tables, or a refusal.
@@ -199,10 +213,7 @@ pub extern "C" fn rootmap_audit(
 ) -> u64
     ensures { Audits file start part owner (told result place count) }
 {
-    let v = audit::audit(file, start, part, owner);
-    *place = v.place;
-    *count = v.count;
-    v.number
+    tell(audit::audit(file, start, part, owner), place, count)
 }
 
 // The second audit, for a file that was salvaged: the same without the comparison of free segments with the gaps, and with nothing else left
@@ -219,27 +230,7 @@ pub extern "C" fn rootmap_audit_salvaged(
     ensures { AuditsSalvaged file start part owner (told result place count) }
 {
     let second = audit::audit_salvaged(file, start, part, owner);
-    *place = second.place;
-    *count = second.count;
-    second.number
-}
-
-// Audits with a limit beside the tables, and writes place and count.
-fn audit_limited(
-    file: &[u8],
-    start: &mut [u64],
-    part: &mut [u64],
-    owner: &mut [u64],
-    limit: usize,
-    place: &mut u64,
-    count: &mut u64,
-) -> u64
-    ensures { AuditsWithin compared limit file start part owner (told result place count) }
-{
-    let seen = audit::audit_within(file, start, part, owner, limit, true);
-    *place = seen.place;
-    *count = seen.count;
-    seen.number
+    tell(second, place, count)
 }
 
 // Audits a whole file with the list's length for room too, and shows the rows in the list: start, size, part and owner of each piece, then
@@ -257,9 +248,9 @@ pub extern "C" fn rootmap_view(
     ensures { Views file start part owner list (told result place count) }
 {
     let limit = list.len();
-    let number = audit_limited(file, start, part, owner, limit, place, count);
+    let seen = audit::audit_within(file, start, part, owner, limit, true);
     view::show(file, start, part, owner, list);
-    number
+    tell(seen, place, count)
 }
 
 // Salvages a file whose chain is broken: 0, the first fault p and the place q after it from which pieces fill the file to its end, with a gap
@@ -274,10 +265,14 @@ pub extern "C" fn rootmap_salvage(
 ) -> u64
     ensures { Salvages buf seen (told result place count) }
 {
-    let found = salvage::salvage(buf, seen);
-    *place = found.place;
-    *count = found.count;
-    found.number
+    match salvage::salvage(buf, seen) {
+        Ok(mend) => {
+            *place = mend.from as u64;
+            *count = mend.to as u64;
+            0
+        }
+        Err(f) => tell(Err(f), place, count),
+    }
 }
 
 // Audits a file and writes its card into an output: 0, 0 and the card's length, with the audit's rows in the tables; or the audit's own
@@ -295,9 +290,7 @@ pub extern "C" fn rootmap_card_write(
     ensures { WritesCard file card start part owner (told result place count) }
 {
     let wrote = cardwriter::write_card(file, card, start, part, owner);
-    *place = wrote.place;
-    *count = wrote.count;
-    wrote.number
+    tell(wrote, place, count)
 }
 
 // Reads a card into an output: 0, 0 and the file's length; or 28 to 31, or 17, with the output as it was. A card that is taken is refused
@@ -311,8 +304,5 @@ pub extern "C" fn rootmap_card_read(
 ) -> u64
     ensures { ReadsCard card.now out.old out.new (told result place count) }
 {
-    let read = card::read_card(card, out);
-    *place = read.place;
-    *count = read.count;
-    read.number
+    tell(card::read_card(card, out), place, count)
 }

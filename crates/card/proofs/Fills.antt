@@ -33,8 +33,8 @@ module _ (c : List ℕ) {e : ℕ} (i : e ≡ end_of c) (t : fault_from c (needed
   pub count_there : {n : ℕ} → n ≡ blocks_for e → n * 512 ≤ length c
   count_there j = omega (arith, count_is j, blocks_there c t)
 
-  pub end_low : e < 100 → false ≡ all (closed c)
-  end_low l = sym (not_all (closed c) (λ h. omega (arith, h.0)))
+  pub spans : {n : ℕ} → n ≡ blocks_for e → (n * 512 ≤ length c) × (e ≤ n * 504)
+  spans j = (count_there j, omega (arith, blocks_hold e))
 
   pub more_bytes : {n : ℕ} → n ≡ blocks_for e → (length c ≡ n * 512 → ⊥) → false ≡ all (closed c)
   more_bytes j l = sym (not_all (closed c) (λ h. l (h.1.0 ∙ ap (λ (k : ℕ). k * 512) (sym (count_is j)))))
@@ -95,8 +95,11 @@ module _ {c : List ℕ} {e : ℕ} {b : List ℕ} {n : ℕ} {w : List ℕ} {i : �
         part = omega arith;
       }
 
-  pub copy_from : i < n → Bounds (lesser 504 (e - i * 504))
+  copy_from : i < n → Bounds (lesser 504 (e - i * 504))
   copy_from l = copy_bounds l refl
+
+  pub copy_spans : i < n → (i * 504 ≤ e) × (e ≤ length w) × (i * 512 + 4 + lesser 504 (e - i * 504) ≤ length c) × (lesser 504 (e - i * 504) ≤ e - i * 504)
+  copy_spans l = let f = copy_from l in (f.file, f.output, f.card, f.part)
 
   -- what one block more gives
   grown : i * 504 ≤ e

@@ -2,21 +2,24 @@
 use Prim.Native.Nat.{ℕ, zero, suc, ◌*◌, ◌<◌, ◌≤◌}
 use mathlib.Core.Bool.{Bool, true, false, not}
 use mathlib.Core.List.{List, [], ◌∷◌}
-use mathlib.Core.Path.{◌≡◌, refl, sym, ap, ◌∙◌}
+use mathlib.Core.Path.{◌≡◌, refl, sym, ap, ◌∙◌, subst}
 use native.Mathlib.Omega.{arith}
 use lib.ListN.{length, take, drop, length-take, length-drop}
 use Rattle.wire.specs.Answer.{done, refusal}
 use Rattle.wire.specs.Check.{all, le, pick}
+use Rattle.wire.specs.Fault.{fault, fault_answer}
 use Rattle.wire.specs.Number.{Bytes}
 use Rattle.wire.specs.Output.{Made, made, refused, answer_of, output_of, Makes}
 use Rattle.wire.specs.Parts.{part, parts}
 use Rattle.wire.specs.Patch.{patch}
 use Rattle.wire.specs.declared.Answer.{Answer}
+use Rattle.wire.specs.declared.fault.Fault.{Fault}
+use Rattle.wire.specs.declared.fault.Reason.TheVariants as reason
 use Rattle.wire.proofs.Checks.{all_yes, picked, not_picked, false_true}
 use Rattle.fileheader.specs.File.{file_number}
 use Rattle.card.specs.Card.{blocks_for}
 use Rattle.card.specs.Read.{block_at, block_fault, fault_from, data_at, end_of, needed, whole_of, file_of, closed, card_fault}
-use Rattle.card.specs.Read.{if_sound, file_in, read_in}
+use Rattle.card.specs.Read.{if_sound, file_in, read_in, Faults}
 use Rattle.card.specs.Promise.{ReadsCard}
 use Rattle.card.proofs.Blocks.{is_28}
 use Rattle.card.proofs.Faults.{first, no_card_fault, block_fault_law, from_card}
@@ -42,12 +45,11 @@ with_fault : (fault : ℕ) (m : Made) → (fault ≡ 0 → ⊥) → if_sound fau
 with_fault zero m n = absurd (n refl)
 with_fault (suc fault) m n = refl
 
-pub card_refused : (c out : List ℕ) {fault : ℕ} {r : Answer} → Bytes c → fault ≡ card_fault c → (fault ≡ 0 → ⊥) → r ≡ refusal fault 0 → ReadsCard c out out r
+pub card_refused : (c out : List ℕ) (f : Fault) → Bytes c → Faults f (card_fault c) → ReadsCard c out out (fault_answer f)
 unfolding read_in
-card_refused c out {fault} b e n i =
-    let k : read_in c (length out) ≡ refused (refusal fault 0)
-    = ap (λ (x : ℕ). if_sound x (file_in (file_of c) (length out))) (sym e) ∙ with_fault fault (file_in (file_of c) (length out)) n in
-    reads_card c out b (record { answer = i ∙ ap answer_of (sym k); output = ap (output_of out) (sym k) })
+card_refused c out f b g =
+    let k : read_in c (length out) ≡ refused (refusal (card_fault c) 0) = with_fault (card_fault c) (file_in (file_of c) (length out)) g.0 in
+    reads_card c out b (record { answer = g.1 ∙ ap answer_of (sym k); output = ap (output_of out) (sym k) })
 
 -- a card of less than one block
 pub no_block : (c : List ℕ) → length c < 512 → 28 ≡ card_fault c
@@ -63,13 +65,16 @@ pub end_is : (c : List ℕ) {e : ℕ} → e ≡ file_number (take 504 (drop 4 c)
 unfolding end_of
 end_is c i = i ∙ ap (λ (d : List ℕ). file_number d 3) (sym (data_there c 0))
 
-pub blocks_are : (c : List ℕ) {e n fault : ℕ} → e ≡ end_of c → n ≡ blocks_for e → fault ≡ fault_from c n 0 → fault ≡ fault_from c (needed c) 0
+pub blocks_are : (c : List ℕ) {e n : ℕ} → e ≡ end_of c → n ≡ blocks_for e → fault_from c n 0 ≡ fault_from c (needed c) 0
 unfolding needed
-blocks_are c i j k = k ∙ ap (λ (n : ℕ). fault_from c n 0) (j ∙ ap blocks_for i)
+blocks_are c i j = ap (λ (n : ℕ). fault_from c n 0) (j ∙ ap blocks_for i)
 
-pub in_block : (c : List ℕ) (fault : ℕ) → fault ≡ fault_from c (needed c) 0 → (fault ≡ 0 → ⊥) → fault ≡ card_fault c
-in_block c zero e n = absurd (n refl)
-in_block c (suc fault) e n = sym (block_fault_law c fault (sym e))
+pub in_block : (c : List ℕ) (f : Fault) (n : ℕ) → fault_from c n 0 ≡ fault_from c (needed c) 0 → Faults f (fault_from c n 0) → Faults f (card_fault c)
+in_block c f n e g = subst (Faults f) (by (fault_from c n 0) e g.0) g
+  where
+    by : (x : ℕ) → x ≡ fault_from c (needed c) 0 → (x ≡ 0 → ⊥) → x ≡ card_fault c
+    by zero i n = absurd (n refl)
+    by (suc x) i n = sym (block_fault_law c x (sym i))
 
 -- the rest of the card
 pub is_31 : (c : List ℕ) (b : Bool) → fault_from c (needed c) 0 ≡ 0 → b ≡ all (closed c) → not b ≡ true → 31 ≡ card_fault c
@@ -81,6 +86,10 @@ pub no_31 : (c : List ℕ) (b : Bool) → fault_from c (needed c) 0 ≡ 0 → b 
 no_31 c true e f g = no_card_fault c e (all_yes (closed c) (sym f))
 no_31 c false e f g = false_true (sym g)
 
+pub blocks_fit : (c : List ℕ) {e : ℕ} → e ≡ end_of c → card_fault c ≡ 0 → blocks_for e * 512 ≤ length c
+unfolding needed
+blocks_fit c i t = rw i (blocks_there c (from_card c t).0)
+
 module _ (c out : List ℕ) {e : ℕ} (b : Bytes c) (i : e ≡ end_of c) (t : card_fault c ≡ 0) where
   long_is : length (file_of c) ≡ e
   long_is = file_long c (from_card c t).0 ∙ sym i
@@ -89,15 +98,11 @@ module _ (c out : List ℕ) {e : ℕ} (b : Bytes c) (i : e ≡ end_of c) (t : ca
   unfolding read_in
   room_is = rw t
 
-  pub too_short : {r : Answer} → length out < e → r ≡ refusal 17 0 → ReadsCard c out out r
-  too_short l j =
+  pub too_short : (f : Fault) → length out < e → f ≡ fault reason.Room 0 → ReadsCard c out out (fault_answer f)
+  too_short f l j =
       let k : read_in c (length out) ≡ refused (refusal 17 0)
       = room_is ∙ not_picked (le (length (file_of c)) (length out) ∷ []) _ _ (λ h. omega (arith, h.0, long_is)) in
-      reads_card c out b (record { answer = j ∙ ap answer_of (sym k); output = ap (output_of out) (sym k) })
-
-  pub blocks_fit : blocks_for e * 512 ≤ length c
-  unfolding needed
-  blocks_fit = rw i (blocks_there c (from_card c t).0)
+      reads_card c out b (record { answer = ap fault_answer j ∙ ap answer_of (sym k); output = ap (output_of out) (sym k) })
 
   pub read_done : {r : Answer} {out' : List ℕ} → e ≤ length out → out' ≡ patch out 0 (take e (parts (data_at c) (blocks_for e))) → r ≡ done e
       → ReadsCard c out out' r

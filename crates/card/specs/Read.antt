@@ -1,6 +1,8 @@
 -- What the card reader answers: document 02, request 07. It audits nothing, and tests neither magic nor Units nor BEGIN: the file may be
 -- any bytes with an END.
-use Rattle.std.specs.Prelude.{ℕ, zero, suc, ◌*◌, Bool, true, ◌&&◌, List, [], ◌∷◌, eqb, length, take, drop}
+use Rattle.std.specs.Prelude.{ℕ, zero, suc, ◌*◌, Bool, true, ◌&&◌, List, [], ◌∷◌, eqb, length, take, drop, ◌≡◌, Result, Ok, Err}
+use Rattle.wire.specs.Fault.{fault_answer}
+use Rattle.wire.specs.declared.fault.Fault.{Fault}
 use Rattle.wire.specs.Answer.{refusal}
 use Rattle.wire.specs.Check.{Check, le, eq, yes, all, pick}
 use Rattle.wire.specs.Number.{num_at}
@@ -67,6 +69,15 @@ closed c = le 100 (end_of c) ∷ eq (length c) (needed c * 512) ∷ yes (zeros (
 -- the first fault of a card, whatever the output; 0 if there is none
 unfoldable pub card_fault : List ℕ → ℕ
 card_fault c = first_of (fault_from c (needed c) 0) (pick (all (closed c)) 0 31)
+
+-- the fault n, refused at 0 with count 0
+abbrev pub Faults : Fault → ℕ → Type 0
+Faults f n = (n ≡ 0 → ⊥) × (fault_answer f ≡ refusal n 0)
+
+-- what a test answers that is to find the fault n, or 0 if there is none
+abbrev pub Finds : Result Unit Fault → ℕ → Type 0
+Finds (Ok u) n = n ≡ 0
+Finds (Err f) n = Faults f n
 
 -- a fault is refused at 0 with count 0
 abbrev pub if_sound : ℕ → Made → Made

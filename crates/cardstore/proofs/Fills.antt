@@ -13,7 +13,7 @@ use Rattle.wire.specs.Number.{be_bytes, lesser}
 use Rattle.wire.specs.Parts.{part, parts}
 use Rattle.wire.specs.Patch.{patch}
 use Rattle.wire.proofs.Checks.{below_or}
-use Rattle.wire.proofs.Numbers.{length_bytes, lesser_within}
+use Rattle.wire.proofs.Numbers.{length_bytes}
 use Rattle.wire.proofs.Parts.{length_parts}
 use Rattle.wire.proofs.Patches.{length_patch, patch_nil, patch_then, part_then}
 use Rattle.buffer.specs.Store.{put_front}
@@ -123,14 +123,6 @@ module _ {f : List ℕ} {n : ℕ} {b w : List ℕ} {i : ℕ} (h : Writing f n b 
       (λ (m : length f ≤ i * 504 + 504). let k = lesser_first (length f) (i * 504 + 504) m in (omega arith, omega arith))
       (below_or (i * 504 + 504) (length f))
 
-  pub write_fits : {from to : ℕ} → i < n → from ≡ i * 504 → to ≡ lesser (length f) (from + 504)
-      → (512 ≤ length (take (length w - i * 512) (drop (i * 512) w))) × (length (take (to - from) (drop from f)) ≤ 504)
-  write_fits {from} {to} l e j =
-      let g = lesser_within (length f) (from + 504) in
-      let o = write_length in
-      let r = h.room in
-      (simp (length-take, length-drop) (omega arith), simp length-take (omega arith))
-
   pub write_turn : {at from to : ℕ} {ys : List ℕ} → i < n → at ≡ i * 512 → from ≡ i * 504 → to ≡ lesser (length f) (from + 504)
       → ys ≡ patch (mid_of at (length w - at) w) 0 (block_with i (filled (take (to - from) (drop from f)) 504))
       → Writing f n b (put_mid at (length w - at) w ys) (i + 1)
@@ -150,8 +142,3 @@ module _ {f : List ℕ} {n : ℕ} {b w : List ℕ} {i : ℕ} (h : Writing f n b 
             ∙ ap (λ (x : List ℕ). patch (mid_of at (length w - at) w) 0 (block_with i (filled x 504)))
             (block_part f i g j (rw g (write_from l))));
       })
-
-  pub write_ended : n ≤ i → w ≡ patch b 0 (parts (block_of f) n)
-  write_ended l =
-      let e : i ≡ n = omega (arith, h.few) in
-      h.is ∙ ap (λ (k : ℕ). patch b 0 (parts (block_of f) k)) e

@@ -36,18 +36,18 @@ module _ (f out : List ℕ) where
   stores_card : {r : Answer} {out' : List ℕ} → Makes (card_in f (length out)) out out' r → StoresCard f out out' r
   stores_card m = record { makes = m; back = λ e s. read_back f s.0 s.1.0 (fits_by m.answer e).0 }
 
-  pub stored_not : {r : Answer} → (All (card_fits f (length out)) → ⊥) → r ≡ refusal 17 0 → StoresCard f out out r
-  stored_not h j =
-      let k = not_written h in
-      stores_card (record { answer = j ∙ ap answer_of (sym k); output = ap (output_of out) (sym k) })
+  pub stored_not : {n : ℕ} → n ≡ blocks_for (length f) → ((n ≤ 2 ^ 32) × (n * 512 ≤ length out) → ⊥) → StoresCard f out out (refusal 17 0)
+  stored_not {n} e h =
+      let k = not_written (λ g. h (omega (arith, g.0), omega (arith, g.1.0, length_card f))) in
+      stores_card (record { answer = ap answer_of (sym k); output = ap (output_of out) (sym k) })
 
-  pub stored_all : {r : Answer} {n : ℕ} {out' : List ℕ} → n ≡ blocks_for (length f) → n ≤ 2 ^ 32 → n * 512 ≤ length out
-      → out' ≡ patch out 0 (parts (block_of f) n) → r ≡ done (n * 512) → StoresCard f out out' r
+  pub stored_all : {n : ℕ} {out' : List ℕ} → n ≡ blocks_for (length f) → n ≤ 2 ^ 32 → n * 512 ≤ length out
+      → out' ≡ patch out 0 (parts (block_of f) n) → StoresCard f out out' (done (n * 512))
   unfolding card_of
-  stored_all {n = n} e l m p j =
+  stored_all {n} e l m p =
       let long : n * 512 ≡ length (card_of f) = omega (arith, length_card f) in
       let k = is_written (omega arith, (omega arith, tt)) in
       stores_card (record {
-        answer = j ∙ ap done long ∙ ap answer_of (sym k);
+        answer = ap done long ∙ ap answer_of (sym k);
         output = p ∙ ap (λ (n : ℕ). patch out 0 (parts (block_of f) n)) e ∙ ap (output_of out) (sym k);
       })

@@ -1,7 +1,8 @@
 // The card of a file, written without an audit. The public function takes any input and has no precondition.
 #![tactic(auto)]
 
-ghost use Rattle.std.specs.Prelude.{◌≡◌, ◌++◌, ◌*◌, ◌≤◌, ◌^◌, length};
+ghost use Rattle.std.specs.Prelude.{◌≡◌, ◌++◌, ◌*◌, ◌≤◌, ◌^◌, ◌↔◌, length, IsTrue};
+ghost use Rattle.wire.specs.Fault.{answer_of};
 ghost use Rattle.wire.specs.Number.{be_bytes};
 ghost use Rattle.wire.specs.Parts.{parts};
 ghost use Rattle.wire.specs.Patch.{patch};
@@ -12,9 +13,9 @@ ghost use Rattle.cardstore.specs.Store.{StoresCard};
 use buffer::{copy, put32};
 use card::blocks_for;
 use checksum::check;
-use table::clear_bytes;
+use table::clear;
+use wire::fault::{Fault, Reason};
 use wire::number::least;
-use wire::{Answer, finished, refused};
 
 // Writes number and data of a block at the front of a part, with zeros as padding.
 fn put_body(part: &mut [u8], i: u32, bytes: &[u8])
@@ -24,7 +25,7 @@ fn put_body(part: &mut [u8], i: u32, bytes: &[u8])
     put32(&mut *part, i);
     copy(&mut part[4..], bytes);
     let end = 4 + bytes.len();
-    clear_bytes(&mut part[end..508]);
+    clear(&mut part[end..508], 0);
 }
 
 // Writes a block at the front of a part.
@@ -42,29 +43,34 @@ fn put_card(file: &[u8], n: usize, card: &mut [u8])
     requires { (n ≡ blocks_for (length file.now)) × (n ≤ 2 ^ 32) × (n * 512 ≤ length card.old) }
     ensures { card.new ≡ patch card.old 0 (parts (block_of file.now) n) }
 {
-    let mut i: usize = 0;
-    while i < n {
+    for i in 0..n {
         let at = i * 512;
         let from = i * 504;
         let to = least(file.len(), from + 504);
         put_block(&mut card[at..], i as u32, &file[from..to]);
-        i += 1;
     }
 }
 
-// Writes the card of a file into an output, whether the file passes an audit or not: 0, 0 and the card's length, 512 times its blocks, with
-// the card at the output's front and the bytes behind it as they were; the reader gives a file back whose END is its length. Refused, at 0
-// with count 0 and the output as it was: 17 for too short an output or more than 2^32 blocks.
-pub fn store_card(file: &[u8], card: &mut [u8]) -> Answer
-    ensures { StoresCard file.now card.old card.new result }
+// Whether n blocks have numbers, and room in so many bytes.
+fn fit(n: usize, room: usize) -> bool
+    ensures { IsTrue result ↔ (n ≤ 2 ^ 32) × (n * 512 ≤ room) }
+{
+    n <= 4294967296 && n <= room / 512
+}
+
+// Writes the card of a file into an output, whether the file passes an audit or not: the card's length, 512 times its blocks, with the card
+// at the output's front and the bytes behind it as they were; the reader gives a file back whose END is its length. Refused, at 0 and with
+// the output as it was, for too short an output or more than 2^32 blocks.
+pub fn store_card(file: &[u8], card: &mut [u8]) -> Result<usize, Fault>
+    ensures { StoresCard file.now card.old card.new (answer_of result) }
 {
     let n = blocks_for(file.len());
-    if 4294967296 < n {
-        return refused(17, 0);
-    }
-    if card.len() / 512 < n {
-        return refused(17, 0);
+    if !fit(n, card.len()) {
+        return Err(Fault {
+            reason: Reason::Room,
+            place: 0,
+        });
     }
     put_card(file, n, card);
-    finished((n * 512) as u64)
+    Ok(n * 512)
 }

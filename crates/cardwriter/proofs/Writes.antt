@@ -11,11 +11,13 @@ use Rattle.wire.specs.Lent.{Lent, MutLent, held, before, after}
 use Rattle.wire.specs.Output.{Made, made, answer_of, output_of, Makes}
 use Rattle.wire.specs.Output as output
 use Rattle.wire.specs.declared.Answer.{Answer}
-use Rattle.wire.proofs.Answers.{same_answer}
-use Rattle.wire.proofs.Checks.{picked}
+use Rattle.wire.proofs.Answers.{same_answer, refusal_number}
+use Rattle.wire.specs.Fault.{answer_of as told_of}
+use Rattle.wire.specs.declared.fault.Fault.{Fault}
+use Rattle.wire.proofs.Checks.{picked, false_true}
 use Rattle.fileheader.specs.File.{opened_as}
 use Rattle.fileheader.specs.declared.FileHead.{FileHead}
-use Rattle.fileheader.specs.declared.Opened.TheVariants as opened
+use Rattle.std.specs.Prelude.{Result, Ok, Err, is_err}
 use Rattle.fileheader.proofs.Opens.{from_opened}
 use Rattle.table.specs.Table.{filled, cleared}
 use Rattle.rules.specs.Demand.{Demand, Passes}
@@ -30,7 +32,7 @@ use Rattle.cardstore.specs.Store.{card_fits, card_in, StoresCard}
 use Rattle.cardwriter.specs.Write.{written_as, rows_left, CardWrittenAgain, WritesCard}
 
 -- a good header says the length
-says_length_law : (s : List ℕ) {h : FileHead} → opened_as s ≡ opened.Good h → All (says_length s)
+says_length_law : (s : List ℕ) {h : FileHead} → opened_as s ≡ Ok h → All (says_length s)
 says_length_law s e = let o = from_opened s (sym e) in (o.long.0, (o.bounds_is.1.0, tt))
 
 -- a card that was read as a file that passes is written again
@@ -67,6 +69,15 @@ module _ (f out : List ℕ) (a : Answer) (n : a.number ≡ 0 → ⊥) where
       × (owners_of v ≡ rows_left (written_as v f (length out)) (owners_of v))
   refused_rows (passed qs ps os) i = absurd (n i)
   refused_rows (refused c p m) i = (refl, refl, refl)
+
+-- a result, as its test tells it
+pub not_stored : (r : Result ℕ Fault) → is_err r ≡ true → (told_of r).number ≡ 0 → ⊥
+not_stored (Ok n) e z = false_true e
+not_stored (Err f) e z = refusal_number f.reason z
+
+pub is_stored : (r : Result ℕ Fault) → is_err r ≡ false → (told_of r).number ≡ 0
+is_stored (Ok n) e = refl
+is_stored (Err f) e = false_true (sym e)
 
 pub refused_first : (file : Lent) (out start part owner : MutLent) {a : Answer}
     → Seen (held file) (before start) (before part) (before owner) (after start) (after part) (after owner) a → (a.number ≡ 0 → ⊥)

@@ -2,25 +2,28 @@
 use Prim.Native.Nat.{ℕ, suc, ◌+◌, ◌≤◌, ◌<◌}
 use mathlib.Core.Bool.{Bool, true}
 use mathlib.Core.List.{List, [], ◌∷◌, ◌++◌, append_assoc}
-use mathlib.Core.Path.{◌≡◌, refl, sym, ap, ◌∙◌}
+use mathlib.Core.Path.{◌≡◌, refl, sym, ap, ◌∙◌, subst}
 use native.Mathlib.Omega.{arith}
 use lib.ListN.{length, drop, set, get_or, length-append, length-take, length-drop, drop_of_length-le}
 use lib.Seq.{take_all, drop-cons, set_at, take-append-le}
 use Rattle.wire.specs.Number.{num_at}
 use Rattle.key.specs.Short.{Certain}
-use Rattle.key.specs.Piece.{piece_at, size_of, answer_of, piece_answer}
+use Rattle.key.specs.Piece.{piece_at, size_of, piece_answer}
+use Rattle.key.specs.Piece.{answer_of as told_of}
+use Rattle.std.specs.Prelude.{Result, Ok, Err}
+use Rattle.wire.specs.Fault.{fault, answer_of}
+use Rattle.wire.specs.declared.fault.Reason.TheVariants as reason
+use Rattle.wire.specs.declared.fault.Fault.{Fault}
 use Rattle.key.specs.declared.piece.Piece.{Piece}
-use Rattle.key.specs.declared.piece.Piece.TheVariants.{Record, Gap, Refused}
+use Rattle.key.specs.declared.piece.Piece.TheVariants.{Record, Gap}
 use Rattle.key.proofs.Pieces.{size_fits, from_gap, from_refused, record_sized}
 use Rattle.rules.specs.Partition.{Partition}
 use Rattle.rules.proofs.Partitions.{snoc}
-use Rattle.chain.specs.Walk.{step_of, over, Walked, walk_answer, Walks}
-use Rattle.chain.specs.declared.Outcome.{Outcome}
-use Rattle.chain.specs.declared.Outcome.TheVariants.{Whole, Fault}
+use Rattle.chain.specs.Walk.{step_of, over, Walked, Walks}
 
 -- a record with short strings has the size that stands there
-pub short_step : (s : List ℕ) (p : ℕ) {n : ℕ} {b : Bool} → n ≡ num_at 4 s p → Certain s p b → b ≡ true → Whole n ≡ step_of (piece_at s p)
-short_step s p e f h = let r = f h in ap Whole (e ∙ sym r.2) ∙ ap step_of (sym r.1)
+pub short_step : (s : List ℕ) (p : ℕ) {n : ℕ} {b : Bool} → n ≡ num_at 4 s p → Certain s p b → b ≡ true → Ok n ≡ step_of (piece_at s p)
+short_step s p e f h = let r = f h in ap (λ (n : ℕ). Ok n) (e ∙ sym r.2) ∙ ap step_of (sym r.1)
 
 -- the table
 pub length_over : (qs t : List ℕ) → length (over qs t) ≡ length t
@@ -59,17 +62,17 @@ over_none [] = refl
 over_none (a ∷ t) = refl
 
 -- a file that is too short, and one that is not
-pub too_short : (s t : List ℕ) → length s < 100 → Walks s t t (Fault 1 0)
+pub too_short : (s t : List ℕ) → length s < 100 → Walks s t t (Err (fault reason.Short 0))
 too_short s t l = record { short = λ k. (refl, refl); long = λ k. absurd (omega arith); told = λ k. absurd (omega arith) }
 
-tells : (s t u : List ℕ) (r : Outcome) → Walked s t u r → (c p : ℕ) → r ≡ Fault c p → walk_answer r ≡ piece_answer s p
+tells : (s t u : List ℕ) (r : Result ℕ Fault) → Walked s t u r → (f : Fault) → r ≡ Err f → answer_of r ≡ piece_answer s f.place
 unfolding piece_answer
-tells s t u (Whole n) h c p e = let z : ◌≡◌ {A = ℕ} 0 1 = cc in absurd (omega arith)
-tells s t u (Fault d q) h c p e =
-    let i : q ≡ p = cc in
-    sym (ap answer_of h.3) ∙ ap (λ (x : ℕ). answer_of (piece_at s x)) i
+tells s t u (Ok n) h f e = let z : ◌≡◌ {A = ℕ} 0 1 = cc in absurd (omega arith)
+tells s t u (Err d) h f e =
+    let i : d ≡ f = cc in
+    sym (ap told_of h.3) ∙ ap (λ (x : Fault). told_of (piece_at s x.place)) i
 
-long_enough_law : {s t u : List ℕ} {r : Outcome} → 100 ≤ length s → Walked s t u r → Walks s t u r
+long_enough_law : {s t u : List ℕ} {r : Result ℕ Fault} → 100 ≤ length s → Walked s t u r → Walks s t u r
 long_enough_law {s} {t} {u} {r} l h = record { short = λ k. absurd (omega arith); long = λ k. h; told = λ k. tells s t u r h }
 
 -- while the chain is walked: the starts so far, as a list
@@ -92,34 +95,33 @@ pub record Sized (s : List ℕ) (p n : ℕ) : Type 0 where
   pub fits : p + n ≤ length s
 
 -- a piece that was stepped over
-sized_by : (s : List ℕ) (p : ℕ) (r : Piece) {n : ℕ} → piece_at s p ≡ r → Whole n ≡ step_of r → Sized s p n
-sized_by s p (Record k) {n = v} i e =
+sized_by : (s : List ℕ) (p : ℕ) (r : Result Piece Fault) {n : ℕ} → piece_at s p ≡ r → Ok n ≡ step_of r → Sized s p n
+sized_by s p (Ok (Record k)) {n = v} i e =
     let f : 0 < size_of (piece_at s p) = rw i (omega (arith, record_sized s p i)) in
     let g = size_fits s p f in
     let o = ap size_of i in
     let m : v ≡ k.nbytes = cc in
     record { is = omega arith; some = omega arith; fits = omega arith }
-sized_by s p (Gap m) {n = v} i e =
+sized_by s p (Ok (Gap m)) {n = v} i e =
     let g = from_gap s p i in
     let o = ap size_of i in
     let l : v ≡ m = cc in
     record { is = omega arith; some = omega arith; fits = omega arith }
-sized_by s p (Refused c q) i e = let z : ◌≡◌ {A = ℕ} 0 1 = cc in absurd (omega arith)
+sized_by s p (Err f) i e = let z : ◌≡◌ {A = ℕ} 0 1 = cc in absurd (omega arith)
 
-pub stepped : (s : List ℕ) (p : ℕ) {n : ℕ} → Whole n ≡ step_of (piece_at s p) → Sized s p n
+pub stepped : (s : List ℕ) (p : ℕ) {n : ℕ} → Ok n ≡ step_of (piece_at s p) → Sized s p n
 stepped s p e = sized_by s p (piece_at s p) refl e
 
 -- a refusal that was met
-stopped_by : (s : List ℕ) (p : ℕ) (r : Piece) {c q : ℕ} → piece_at s p ≡ r → Fault c q ≡ step_of r → (q ≡ p) × (piece_at s p ≡ Refused c p)
-stopped_by s p (Record k) i e = let z : ◌≡◌ {A = ℕ} 0 1 = cc in absurd (omega arith)
-stopped_by s p (Gap m) i e = let z : ◌≡◌ {A = ℕ} 0 1 = cc in absurd (omega arith)
-stopped_by s p (Refused d o) {c} {q} i e =
-    let f = from_refused s p i in
-    let g : q ≡ o = cc in
-    let h : c ≡ d = cc in
-    (g ∙ f, i ∙ ap (λ (x : ℕ). Refused d x) f ∙ ap (λ (x : ℕ). Refused x p) (sym h))
+stopped_by : (s : List ℕ) (p : ℕ) (r : Result Piece Fault) {f : Fault} → piece_at s p ≡ r → Err f ≡ step_of r → (f.place ≡ p) × (piece_at s p ≡ Err f)
+stopped_by s p (Ok (Record k)) i e = let z : ◌≡◌ {A = ℕ} 0 1 = cc in absurd (omega arith)
+stopped_by s p (Ok (Gap m)) i e = let z : ◌≡◌ {A = ℕ} 0 1 = cc in absurd (omega arith)
+stopped_by s p (Err d) {f} i e =
+    let g : d ≡ f = cc in
+    let j = i ∙ ap (λ (x : Fault). Err x) g in
+    (from_refused s p j, j)
 
-pub stopped : (s : List ℕ) (p : ℕ) {c q : ℕ} → Fault c q ≡ step_of (piece_at s p) → (q ≡ p) × (piece_at s p ≡ Refused c p)
+pub stopped : (s : List ℕ) (p : ℕ) {f : Fault} → Err f ≡ step_of (piece_at s p) → (f.place ≡ p) × (piece_at s p ≡ Err f)
 stopped s p e = stopped_by s p (piece_at s p) refl e
 
 -- one turn of the walk, with the table as it is then
@@ -146,12 +148,12 @@ module _ {s t u : List ℕ} {at n : ℕ} (w : Walking s t u at n) where
   pub skipped : length u ≤ n → u ≡ over (w.starts ++ at ∷ []) t
   skipped l = w.table ∙ over_full w.starts t at (omega (arith, kept, w.count))
 
-  pub ended : length s ≤ at → Walks s t u (Whole n)
+  pub ended : length s ≤ at → Walks s t u (Ok n)
   ended l =
       let e : at ≡ length s = omega (arith, w.within) in
       long_enough_law w.enough (w.starts, rw e at w.chain, w.count, w.table)
 
-  pub faulted : {c p : ℕ} → at < length s → Fault c p ≡ step_of (piece_at s at) → Walks s t u (Fault c p)
-  faulted {c} {p} l e =
-      let f = stopped s at e in
-      long_enough_law w.enough (w.starts, rw f.0 w.chain, rw f.0 l, rw f.0 f.1, w.table)
+  pub faulted : {f : Fault} → at < length s → Err f ≡ step_of (piece_at s at) → Walks s t u (Err f)
+  faulted {f} l e =
+      let g = stopped s at e in
+      long_enough_law w.enough (w.starts, subst (λ (x : ℕ). Partition s 100 x w.starts) (sym g.0) w.chain, omega (arith, g.0), ap (piece_at s) g.0 ∙ g.1, w.table)

@@ -1,5 +1,5 @@
 -- Laws of the check: of two byte strings joined, and of one changed byte.
-use Rattle.std.proofs.Common.{◌≡◌, ℕ, zero, suc, ◌+◌, ◌-◌, ◌*◌, ◌/◌, ◌%◌, ◌^◌, ◌<◌, ◌≤◌, List, [], ◌∷◌, ◌++◌, length, get_or, take, drop, set, sym, refl, ap, ◌∙◌, mul_comm, mul-le-mul_left, pow-suc, add-one, arith, length-drop, take-append-drop, drop_of_length-le, take_all, drop-cons}
+use Rattle.std.proofs.Common.{◌≡◌, ℕ, zero, suc, ◌+◌, ◌-◌, ◌*◌, ◌/◌, ◌%◌, ◌^◌, ◌<◌, ◌≤◌, List, [], ◌∷◌, ◌++◌, length, get_or, take, drop, set, sym, refl, ap, ◌∙◌, mul_comm, pow-suc, add-one, arith, length-drop, take-append-drop, drop_of_length-le, take_all, drop-cons}
 use native.Mathlib.Nat.{mod-add-mod, add-mod, mod-add-div', add-mul-mod_self_right}
 use Rattle.checksum.specs.Checksum.{step, check_from, check_of}
 
@@ -103,9 +103,12 @@ unfolding check_of
 check_below bs = from_below 0 bs (omega arith)
 
 -- as the code adds it up
-pub more_is : (c b : ℕ) {t u r : ℕ} → t ≡ (c + c) % 2 ^ 32 → u ≡ (t + c) % 2 ^ 32 → r ≡ (u + b) % 2 ^ 32 → r ≡ step c b
+pub more_is : (c b : ℕ) → (c * 3 % 2 ^ 32 + b) % 2 ^ 32 ≡ step c b
 unfolding step
-more_is c b {t} {u} e f g = g ∙ same_rest (u + b) (3 * c + b) ((c + c) / 2 ^ 32 + (t + c) / 2 ^ 32) (2 ^ 32) (omega arith)
+more_is c b = mod-add-mod (c * 3) (2 ^ 32) b ∙ ap (λ (k : ℕ). (k + b) % 2 ^ 32) (mul_comm c 3)
+
+pub join_is : (a p b : ℕ) → (a * p % 2 ^ 32 + b) % 2 ^ 32 ≡ (a * p + b) % 2 ^ 32
+join_is a p b = mod-add-mod (a * p) (2 ^ 32) b
 
 -- while a string is checked, from the check c on: what is left decides
 pub record Checking (c : ℕ) (s : List ℕ) (sum i : ℕ) : Type 0 where
@@ -137,24 +140,10 @@ rest_checked s k {f} e g =
     ∙ ap (λ (x : ℕ). check_from x (drop k s)) e ∙ sym (from_joined 0 (take k s) (drop k s)) ∙ ap (check_from 0) (take-append-drop k s)
 
 -- 3 to a number, wrapping, and to the next
-power_turn : (i : ℕ) {p r : ℕ} → p ≡ 3 ^ i % 2 ^ 32 → r ≡ step p 0 → r ≡ 3 ^ (i + 1) % 2 ^ 32
+pub power_turn : (i : ℕ) {p r : ℕ} → p ≡ 3 ^ i % 2 ^ 32 → r ≡ step p 0 → r ≡ 3 ^ (i + 1) % 2 ^ 32
 power_turn i e f =
     let m : 3 * 3 ^ i + 0 ≡ 3 ^ i * 3 = omega arith in
     f ∙ ap (λ (k : ℕ). step k 0) e ∙ step_wraps (3 ^ i) 0 ∙ ap (λ (k : ℕ). k % 2 ^ 32) (m ∙ sym (pow-suc 3 i) ∙ ap (λ (k : ℕ). 3 ^ k) (sym (add-one i)))
-
--- while it is worked out
-pub record Raised (n p i : ℕ) : Type 0 where
-  pub done : i ≤ n
-  pub power : p ≡ 3 ^ i % 2 ^ 32
-
-pub raised_began : (n : ℕ) → Raised n 1 0
-raised_began n = record { done = omega arith; power = refl }
-
-pub raised_turn : {n p i r : ℕ} → Raised n p i → i < n → r ≡ step p 0 → Raised n r (i + 1)
-raised_turn {n} {p} {i} h l e = record { done = omega arith; power = power_turn i h.power e }
-
-pub raised_ended : {n p i : ℕ} → Raised n p i → n ≤ i → p ≡ 3 ^ n % 2 ^ 32
-raised_ended h l = h.power ∙ ap (λ (k : ℕ). 3 ^ k % 2 ^ 32) (omega (arith, h.done))
 
 -- a factor on the right may wrap first
 pub power_wraps : (a b q : ℕ) {p r : ℕ} → p ≡ q % 2 ^ 32 → r ≡ (a * p + b) % 2 ^ 32 → r ≡ (a * q + b) % 2 ^ 32
@@ -166,9 +155,3 @@ power_wraps a b q e f =
     wraps =
         ap (λ (k : ℕ). k % 2 ^ 32) (mul_comm a (q % 2 ^ 32)) ∙ factor_wraps q a (2 ^ 32)
         ∙ ap (λ (k : ℕ). k % 2 ^ 32) (mul_comm q a)
-
--- two numbers of 32 bits, multiplied, and one more
-pub product_fits : (a p : ℕ) → a < 2 ^ 32 → p < 2 ^ 32 → a * p ≤ 18446744065119617025
-product_fits a p l m =
-    let x : a * p ≤ a * 4294967295 = mul-le-mul_left a (omega arith) in
-    omega arith

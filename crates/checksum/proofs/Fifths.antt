@@ -1,9 +1,9 @@
 -- The check of bytes from those of five fifths.
-use Rattle.std.proofs.Common.{◌≡◌, ℕ, ◌+◌, ◌*◌, ◌/◌, ◌%◌, ◌^◌, ◌<◌, ◌≤◌, List, ◌++◌, length, get_or, take, sym, refl, ap, ◌∙◌, arith}
+use Rattle.std.proofs.Common.{◌≡◌, ℕ, ◌+◌, ◌*◌, ◌%◌, ◌^◌, ◌<◌, ◌≤◌, List, ◌++◌, length, get_or, take, sym, refl, ap, ◌∙◌, arith}
 use Rattle.wire.specs.Parts.{part, parts}
 use Rattle.wire.proofs.Parts.{part_at, length_part, parts_of}
 use Rattle.checksum.specs.Checksum.{step, check_of}
-use Rattle.checksum.proofs.Checksums.{joined, Checking, check_began, check_turn, check_ended, power_wraps}
+use Rattle.checksum.proofs.Checksums.{joined, Checking, check_turn, check_ended, power_wraps}
 
 -- while five fifths of n bytes are checked side by side
 pub record Fifths (s : List ℕ) (n a b c d e i : ℕ) : Type 0 where
@@ -14,17 +14,6 @@ pub record Fifths (s : List ℕ) (n a b c d e i : ℕ) : Type 0 where
   pub third : Checking 0 (part n s 2) c i
   pub fourth : Checking 0 (part n s 3) d i
   pub fifth : Checking 0 (part n s 4) e i
-
-pub fifths_began : (s : List ℕ) {n : ℕ} → n ≡ length s / 5 → Fifths s n 0 0 0 0 0 0
-fifths_began s {n} e = record {
-  long = omega arith;
-  done = omega arith;
-  first = check_began 0 (part n s 0);
-  second = check_began 0 (part n s 1);
-  third = check_began 0 (part n s 2);
-  fourth = check_began 0 (part n s 3);
-  fifth = check_began 0 (part n s 4);
-}
 
 -- a byte more of a fifth
 fifth_turn : (s : List ℕ) (n k : ℕ) {x y i at : ℕ} → k * n + n ≤ length s → i < n → Checking 0 (part n s k) x i

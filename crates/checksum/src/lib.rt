@@ -4,46 +4,42 @@
 ghost use Rattle.std.specs.Prelude.{◌≡◌, ◌+◌, ◌*◌, ◌%◌, ◌^◌};
 ghost use Rattle.checksum.specs.Checksum.{step, check_from, check_of};
 
-use std::num::wrapping_add_u32;
-
 // The check after one byte more: three times itself plus the byte, wrapping.
+#[tactic(auto, using(crate::proofs::Checksums::more_is))]
 fn more(check: u32, byte: u8) -> u32
     ensures { result ≡ step check byte }
 {
-    let twice = wrapping_add_u32(check, check);
-    let thrice = wrapping_add_u32(twice, check);
-    wrapping_add_u32(thrice, byte as u32)
+    check.wrapping_mul(3).wrapping_add(byte as u32)
 }
 
 // The check after some bytes more.
+#[tactic(auto, using(crate::proofs::Checksums::check_began, crate::proofs::Checksums::check_turn, crate::proofs::Checksums::check_ended))]
 fn more_bytes(check: u32, bytes: &[u8]) -> u32
     ensures { result ≡ check_from check bytes.now }
 {
     let mut sum = check;
-    let mut i: usize = 0;
-    while i < bytes.len() {
-        sum = more(sum, bytes[i]);
-        i += 1;
+    for byte in bytes {
+        sum = more(sum, *byte);
     }
     sum
 }
 
 // The check of two strings joined, from that of each and 3 to the length of the second, wrapping.
+#[tactic(auto, using(crate::proofs::Checksums::join_is))]
 fn join(a: u32, b: u32, power: u32) -> u32
     ensures { result ≡ (a * power + b) % 2 ^ 32 }
 {
-    ((a as u64 * power as u64 + b as u64) % 4294967296) as u32
+    a.wrapping_mul(power).wrapping_add(b)
 }
 
 // 3 to a number, wrapping.
+#[tactic(auto, using(crate::proofs::Checksums::power_turn))]
 fn power(n: usize) -> u32
     ensures { result ≡ 3 ^ n % 2 ^ 32 }
 {
     let mut p: u32 = 1;
-    let mut i: usize = 0;
-    while i < n {
+    for _ in 0..n {
         p = more(p, 0);
-        i += 1;
     }
     p
 }
@@ -58,14 +54,12 @@ pub fn check(bytes: &[u8]) -> u32
     let mut c: u32 = 0;
     let mut d: u32 = 0;
     let mut e: u32 = 0;
-    let mut i: usize = 0;
-    while i < n {
+    for i in 0..n {
         a = more(a, bytes[i]);
         b = more(b, bytes[n + i]);
         c = more(c, bytes[2 * n + i]);
         d = more(d, bytes[3 * n + i]);
         e = more(e, bytes[4 * n + i]);
-        i += 1;
     }
     let p = power(n);
     let front = join(join(join(join(a, b, p), c, p), d, p), e, p);

@@ -7,14 +7,14 @@ use native.Mathlib.Omega.{arith}
 use borrow.Author.Tests.{lt-ltb}
 use lib.ListN.{length, get_or, drop, length-take, length-map}
 use lib.Seq.{get_or-take, get_or-drop}
+use Rattle.std.specs.Prelude.{Option, Some, None, unwrap_or}
+use Rattle.std.proofs.lemmas.Option.{same_Some}
 use Rattle.wire.specs.Check.{Check, lt, eq, All}
 use Rattle.wire.proofs.Checks.{all_yes, below_or}
 use Rattle.wire.proofs.Every.{each_below}
 use Rattle.classname.specs.Find.{first_in}
 use Rattle.classname.specs.Name.{classes, name_of}
 use Rattle.classname.specs.Length.{by_length, shorter_in, shorter, leaves, deciding_byte, deciding_bytes, chosen, candidate_of, In, Leaves, Decides}
-use Rattle.classname.specs.declared.find.First.{First}
-use Rattle.classname.specs.declared.find.First.TheVariants.{At, Nowhere}
 use Rattle.classname.proofs.Finds.{first_holds}
 
 abbrev pub length_of : ℕ → ℕ
@@ -40,9 +40,15 @@ all_shorter [] m n l h = refl
 all_shorter (c ∷ cs) m n l h = rw (lt-ltb (length_of c) n (omega (arith, h.0))) (ap suc (all_shorter cs m n l h.1))
 
 -- each of the twelve is what its own length and byte leave
-pub own_candidate : (c : ℕ) → c < classes → candidate_of (length_of c) (deciding_byte (name_of c)) ≡ c
+pub own_candidate : (c : ℕ) → c < classes → candidate_of (length_of c) (deciding_byte (name_of c)) ≡ Some c
 unfolding name_of shorter_in leaves first_in candidate_of
-own_candidate c l = (each_below (λ c. eq (candidate_of (length_of c) (deciding_byte (name_of c))) c ∷ []) classes refl c l).0
+own_candidate c l =
+    go (candidate_of (length_of c) (deciding_byte (name_of c)))
+    (each_below (λ d. eq (unwrap_or (candidate_of (length_of d) (deciding_byte (name_of d))) classes) d ∷ []) classes refl c l).0
+  where
+    go : (x : Option ℕ) → unwrap_or x classes ≡ c → x ≡ Some c
+    go (Some d) e = ap Some e
+    go None e = absurd (omega arith)
 
 -- a row of those that a length leaves
 pub row : (n i : ℕ) → i < length (leaves n) → (get_or (leaves n) i 0 ≡ get_or by_length (shorter n + i) 0) × (shorter n + i < shorter (suc n))
@@ -52,20 +58,18 @@ row n i l =
     (get_or-take _ (drop (shorter n) by_length) i 0 k ∙ get_or-drop (shorter n) by_length i 0, omega arith)
 
 -- a class that is found is one of those that were looked through
-pub candidate_in : (n b : ℕ) → candidate_of n b < classes → In (candidate_of n b) (leaves n)
+pub candidate_in : (n b c : ℕ) → candidate_of n b ≡ Some c → In c (leaves n)
 unfolding candidate_of
-candidate_in n b = go (first_in (deciding_bytes (leaves n)) b) refl
+candidate_in n b c = go (first_in (deciding_bytes (leaves n)) b) refl
   where
-    go : (f : First) → first_in (deciding_bytes (leaves n)) b ≡ f → chosen (leaves n) f < classes → In (chosen (leaves n) f) (leaves n)
-    go (At i) e l = (i, rw length-map at (first_holds (deciding_bytes (leaves n)) b i e).0, refl)
-    go Nowhere e l = absurd (omega arith)
+    go : (f : Option ℕ) → first_in (deciding_bytes (leaves n)) b ≡ f → chosen (leaves n) f ≡ Some c → In c (leaves n)
+    go (Some i) e h = (i, rw length-map at (first_holds (deciding_bytes (leaves n)) b i e).0, same_Some (get_or (leaves n) i 0) c h)
+    go None e h = let z : ◌≡◌ {A = ℕ} 0 1 = cc in absurd (omega arith)
 
 module _ (n : ℕ) where
   leaves_has : (c : ℕ) → c < classes → length_of c ≡ n → In c (leaves n)
   leaves_has c l e =
-      let o : candidate_of n (deciding_byte (name_of c)) ≡ c = rw (← e) (own_candidate c l) in
-      let h = candidate_in n (deciding_byte (name_of c)) (rw o l) in
-      (h.0, h.1, h.2 ∙ o)
+      candidate_in n (deciding_byte (name_of c)) c (rw (← e) (own_candidate c l))
 
   leaves_only : (c : ℕ) → In c (leaves n) → (c < classes) × (length_of c ≡ n)
   unfolding name_of shorter_in leaves
@@ -80,11 +84,11 @@ module _ (n : ℕ) where
       let h = leaves_only c x in
       let k = leaves_only d y in
       let i : candidate_of (length_of c) (deciding_byte (name_of c)) ≡ candidate_of (length_of d) (deciding_byte (name_of d)) = rw (h.1, k.1, e) in
-      sym (own_candidate c h.0) ∙ i ∙ own_candidate d k.0
+      same_Some c d (sym (own_candidate c h.0) ∙ i ∙ own_candidate d k.0)
 
 -- for every length
 pub each_length : (n : ℕ) → Leaves n
 each_length n = record { has = leaves_has n; only = leaves_only n; parted = leaves_parted n }
 
-pub decides : {n b r : ℕ} → r ≡ candidate_of n b → Decides n b r
+pub decides : {n b : ℕ} {r : Option ℕ} → r ≡ candidate_of n b → Decides n b r
 decides {n} e = record { is = e; by = each_length n }

@@ -1,6 +1,5 @@
 -- The names of the classes in a StreamerInfo record: document 01, "A new class tag is 0xffffffff and a name ended by zero".
-use Rattle.std.specs.Prelude.{ℕ, suc, ◌<◌, List, [], ◌∷◌, ◌≡◌, length, get_or}
-use Rattle.wire.specs.Check.{pick}
+use Rattle.std.specs.Prelude.{ℕ, ◌<◌, List, [], ◌∷◌, ◌≡◌, length, get_or, position, Option, Some, None}
 use Rattle.wire.specs.Equal.{eq_bytes}
 use Rattle.wire.specs.Quoted.{bytes}
 
@@ -28,16 +27,12 @@ classes = length class_names
 unfoldable pub name_of : ℕ → List ℕ
 name_of c = get_or class_names c []
 
--- the number of the class that a byte string names; an unknown name gets the number after the last
-unfoldable pub class_in : List (List ℕ) → List ℕ → ℕ
-class_in [] s = 0
-class_in (n ∷ ns) s = pick (eq_bytes s n) 0 (suc (class_in ns s))
-
-unfoldable pub class_of : List ℕ → ℕ
-class_of s = class_in class_names s
+-- the number of the class that a byte string names; an unknown name gets none
+unfoldable pub class_of : List ℕ → Option ℕ
+class_of s = position (eq_bytes s) class_names
 
 -- request 03: "every byte string gets the class whose name it is, all others none"
 pub record Classified (s : List ℕ) : Type 0 where
-  pub named : (c : ℕ) → c < classes → name_of c ≡ s → class_of s ≡ c
-  pub only : class_of s < classes → name_of (class_of s) ≡ s
-  pub none : ((c : ℕ) → c < classes → name_of c ≡ s → ⊥) → class_of s ≡ classes
+  pub named : (c : ℕ) → c < classes → name_of c ≡ s → class_of s ≡ Some c
+  pub only : (c : ℕ) → class_of s ≡ Some c → (c < classes) × (name_of c ≡ s)
+  pub none : ((c : ℕ) → c < classes → name_of c ≡ s → ⊥) → class_of s ≡ None

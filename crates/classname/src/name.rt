@@ -1,9 +1,9 @@
 // The class that a name has: by its length, then by the byte at index 9, then by all of it.
-ghost use Rattle.std.specs.Prelude.{◌≡◌};
+ghost use Rattle.std.specs.Prelude.{◌≡◌, ◌≤◌};
 ghost use Rattle.classname.specs.Name.{class_of};
-ghost use Rattle.classname.specs.Length.{Decides};
+ghost use Rattle.classname.specs.Length.{Decides, Counted};
 
-use crate::find::{First, first_byte};
+use crate::find::first_byte;
 use wire::number::be8;
 use wire::text::same;
 
@@ -38,42 +38,47 @@ const CLASSES: [u8; 12] = [1, 10, 0, 2, 8, 4, 6, 3, 9, 11, 5, 7];
 // The byte at index 9 of their names, which differs where the length is the same; 0 past a name's end.
 const BYTES: [u8; 12] = *b"\0SIBLSOBOSBO";
 
-// The number after the last: no class.
-const NONE: usize = 12;
+// The rows of CLASSES and BYTES whose names have one length.
+struct Rows {
+    first: usize,
+    end: usize,
+}
 
-// The class that a length and the byte at index 9 leave, 12 for none.
-fn candidate(len: usize, byte: u32) -> usize
-    ensures { Decides len byte result }
+// The rows of the names of a length.
+fn rows_of(len: usize) -> Rows
+    requires { (9 ≤ len) × (len ≤ 22) }
+    ensures { Counted len result.first result.end }
 {
-    if len < SHORTEST {
-        return NONE;
-    }
-    if LONGEST < len {
-        return NONE;
-    }
     // Two uses of a constant would build it twice.
     let shorter = SHORTER;
     let past = len - SHORTEST;
-    let first = be8(&shorter, past) as usize;
-    let end = be8(&shorter, past + 1) as usize;
-    let First::At(i) = first_byte(&BYTES[first..end], byte) else {
-        return NONE;
-    };
-    be8(&CLASSES, first + i) as usize
+    Rows {
+        first: be8(&shorter, past) as usize,
+        end: be8(&shorter, past + 1) as usize,
+    }
 }
 
-// The class that a byte string names, 12 for none.
-pub fn class_of(name: &[u8]) -> usize
+// The class that a length and the byte at index 9 leave.
+fn candidate(len: usize, byte: u32) -> Option<usize>
+    ensures { Decides len byte result }
+{
+    if len < SHORTEST || LONGEST < len {
+        return None;
+    }
+    let Rows { first, end } = rows_of(len);
+    let i = first_byte(&BYTES[first..end], byte)?;
+    Some(be8(&CLASSES, first + i) as usize)
+}
+
+// The class that a byte string names.
+pub fn class_of(name: &[u8]) -> Option<usize>
     ensures { result ≡ class_of name.now }
 {
-    let class = candidate(name.len(), be8(name, 9));
-    if NONE <= class {
-        return NONE;
-    }
+    let class = candidate(name.len(), be8(name, 9))?;
     let from = be8(&STARTS, class) as usize;
     let end = from + name.len();
     if same(name, &NAMES[from..end]) {
-        return class;
+        return Some(class);
     }
-    NONE
+    None
 }

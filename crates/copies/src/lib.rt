@@ -11,12 +11,13 @@ ghost use Rattle.rules.specs.Turn.{found};
 ghost use Rattle.copies.specs.Copy.{Tests, Finds};
 
 use directory::DirHead;
-use key::header::{Header, Key};
-use key::piece::{Piece, read_piece};
-use keylist::{Data, read_copy, read_list};
+use key::header::Key;
+use key::piece::read_record;
+use keylist::{read_copy, read_list};
 use record::{is_directory, same_at};
 use rows::lists::is_nothing;
-use rows::{Row, find_row, seek_row};
+use rows::{find_row, seek_row};
+use wire::fault::{Fault, Reason};
 
 // A keys list: the place of its directory, its own, and the end of its data.
 #[derive(Clone, Copy)]
@@ -36,53 +37,57 @@ pub struct Claim {
     pub place: usize,
 }
 
-// A copy: what it gives its record, or a refusal.
+// A directory's keys list: what it gives its own record, and the start and end of its data.
 #[derive(Clone, Copy)]
-pub enum Entry {
-    Fits(Claim),
-    Fault(u32, usize),
+pub struct KeysList {
+    pub claim: Claim,
+    pub from: usize,
+    pub end: usize,
 }
 
-// A directory's keys list: none, what it gives its own record, with the start and end of its data, or a refusal.
-#[derive(Clone, Copy)]
-pub enum Keys {
-    Nothing,
-    Held(Claim, usize, usize),
-    Fault(u32, usize),
-}
-
-// The part of a record that is listed: 14 is a directory, found and not done.
+// The part of a record that is listed, by its number in the table that C lends: 14 is a directory, found and not done.
 fn mark_of(file: &[u8], k: Key) -> u64
     ensures { result ≡ pick (named file.now k.class t_directory) (found dir) listed }
 {
-    if is_directory(file, k.class) {
-        return 14;
-    }
-    5
+    if is_directory(file, k.class) { 14 } else { 5 }
 }
 
-// Tests a copy of a keys list: part and owner that it gives its record, or 12 at the list or 13 at the copy, as the order has them for
+// Tests a copy of a keys list: part and owner that it gives its record, or Keys at the list or Entry at the copy, as the order has them for
 // starts that rise; whichever row is looked at first.
-pub fn test_copy(file: &[u8], start: &[u64], list: Span, at: usize, near: usize) -> Entry
+pub fn test_copy(
+    file: &[u8],
+    start: &[u64],
+    list: Span,
+    at: usize,
+    near: usize,
+) -> Result<Claim, Fault>
     ensures { Tests file.now start.now list at result }
 {
-    let Header::Good(k) = read_copy(file, at, list.end) else {
-        return Entry::Fault(12, list.seek as usize);
+    let broken = Fault {
+        reason: Reason::Keys,
+        place: list.seek as usize,
+    };
+    let unfit = Fault {
+        reason: Reason::Entry,
+        place: at,
+    };
+    let Some(k) = read_copy(file, at, list.end) else {
+        return Err(broken);
     };
     let place = k.seekkey as usize;
-    let Row::At(row) = seek_row(start, place, near) else {
-        return Entry::Fault(13, at);
+    let Some(row) = seek_row(start, place, near) else {
+        return Err(unfit);
     };
-    let Piece::Record(l) = read_piece(file, place) else {
-        return Entry::Fault(13, at);
+    let Some(l) = read_record(file, place) else {
+        return Err(unfit);
     };
     if !same_at(file, at, place, k.keylen as usize) {
-        return Entry::Fault(13, at);
+        return Err(unfit);
     }
     if k.seekpdir != list.dir {
-        return Entry::Fault(13, at);
+        return Err(unfit);
     }
-    Entry::Fits(Claim {
+    Ok(Claim {
         row,
         part: mark_of(file, l),
         dir: list.dir,
@@ -91,30 +96,41 @@ pub fn test_copy(file: &[u8], start: &[u64], list: Span, at: usize, near: usize)
     })
 }
 
-// The keys list of a directory: none, part and owner that it gives its own record, or 12 at SeekKeys, as the order has them for starts that
+// The keys list of a directory: none, part and owner that it gives its own record, or Keys at SeekKeys, as the order has them for starts that
 // rise.
-pub fn find_list(file: &[u8], start: &[u64], dir: u64, head: DirHead) -> Keys
+pub fn find_list(
+    file: &[u8],
+    start: &[u64],
+    dir: u64,
+    head: DirHead,
+) -> Result<Option<KeysList>, Fault>
     ensures { Finds file.now start.now dir head result }
 {
-    let seek = head.seekkeys;
-    let nbytes = head.nbyteskeys;
-    if is_nothing(seek, nbytes) {
-        return Keys::Nothing;
+    let seek = head.seekkeys as usize;
+    if is_nothing(head.seekkeys, head.nbyteskeys) {
+        return Ok(None);
     }
-    let Row::At(row) = find_row(start, seek as usize) else {
-        return Keys::Fault(12, seek as usize);
+    let bad = Fault {
+        reason: Reason::Keys,
+        place: seek,
+    };
+    let Some(row) = find_row(start, seek) else {
+        return Err(bad);
     };
     let place = dir as usize;
-    let Data::Held(from, end) = read_list(file, seek as usize, nbytes, place) else {
-        return Keys::Fault(12, seek as usize);
+    let Some(data) = read_list(file, seek, head.nbyteskeys, place) else {
+        return Err(bad);
     };
-    let next = from + 4;
-    let g = Claim {
+    let claim = Claim {
         row,
         part: 4,
         dir,
-        next,
+        next: data.from + 4,
         place,
     };
-    Keys::Held(g, from, end)
+    Ok(Some(KeysList {
+        claim,
+        from: data.from,
+        end: data.end,
+    }))
 }

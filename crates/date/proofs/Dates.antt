@@ -1,12 +1,11 @@
 -- Packing and unpacking a date undo each other.
 use Prim.Native.Nat.{ℕ, ◌+◌, ◌-◌, ◌*◌, ◌/◌, ◌%◌, ◌<◌}
-use mathlib.Core.Path.{◌≡◌, sym, ap, ◌∙◌}
+use mathlib.Core.Path.{◌≡◌, sym}
 use native.Mathlib.Nat.{div-div-eq-div-mul, div-add-mod'}
 use native.Mathlib.Omega.{arith}
 use Rattle.wire.specs.Answer.{done, refusal}
 use Rattle.wire.specs.Check.{All}
 use Rattle.date.specs.Date.{packed, date_fits, pack_answer, unpacked, Packs, Unpacks}
-use Rattle.wire.specs.declared.Answer.{Answer}
 use Rattle.date.specs.declared.Date.{Date}
 use Rattle.wire.proofs.Checks.{picked, not_picked}
 
@@ -22,16 +21,14 @@ unpack_pack d h =
     let e : (unpacked (packed d)).second ≡ d.second = omega arith in
     λ i. record { year = y i; month = m i; day = a i; hour = b i; minute = n i; second = e i }
 
-pub out_of_range : (d : Date) {a : Answer} → a ≡ refusal 18 0 → (All (date_fits d) → ⊥) → Packs d a
+-- the answer, and what it promises
+pub out_of_range : (d : Date) → (All (date_fits d) → ⊥) → Packs d (refusal 18 0)
 unfolding pack_answer
-out_of_range d e h = record {
-  answer = e ∙ sym (not_picked (date_fits d) _ _ h);
-  back = λ z. let y = rw e at z in absurd (omega arith);
-}
+out_of_range d h = record { answer = sym (not_picked (date_fits d) _ _ h); back = λ z. absurd (omega arith) }
 
-pub taken : (d : Date) {a : Answer} → a ≡ done (packed d) → All (date_fits d) → Packs d a
+pub taken : (d : Date) (v : ℕ) → v ≡ packed d → All (date_fits d) → Packs d (done v)
 unfolding pack_answer
-taken d e h = record { answer = e ∙ sym (picked (date_fits d) _ _ h); back = λ z. rw e (unpack_pack d h) }
+taken d v e h = rw e (record { answer = sym (picked (date_fits d) _ _ h); back = λ z. unpack_pack d h })
 
 -- the fields of any 32 bits are in their ranges
 pub unpacked_fits : (v : ℕ) → v < 4294967296 → All (date_fits (unpacked v))
@@ -52,4 +49,4 @@ pub pack_unpack : (v : ℕ) {d : Date} → v < 4294967296 → d ≡ unpacked v �
 unfolding unpacked packed
 pack_unpack v h e =
     let s = digits v _ _ _ _ _ _ _ _ _ _ (div-add-mod' v 64) (digit v 64 64) (digit v 4096 32) (digit v 131072 32) (digit v 4194304 16) in
-    record { fields = e; back = rw e (sym (taken (unpacked v) (ap done s) (unpacked_fits v h)).answer) }
+    record { fields = e; back = rw e (sym (taken (unpacked v) v s (unpacked_fits v h)).answer) }

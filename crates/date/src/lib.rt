@@ -1,9 +1,10 @@
 // Packed dates (document 000, Datime). Every public function takes any input and has no precondition.
 #![tactic(auto)]
 
+ghost use Rattle.wire.specs.Fault.{answer_of};
 ghost use Rattle.date.specs.Date.{Packs, Unpacks};
 
-use wire::{Answer, finished, refused};
+use wire::fault::{Fault, Reason};
 
 #[derive(Clone, Copy)]
 pub struct Date {
@@ -15,44 +16,32 @@ pub struct Date {
     pub second: u32,
 }
 
-// The 32 bits of a date, which unpack to the same date; 18 for a field out of its range.
-pub fn pack_date(d: Date) -> Answer
-    ensures { Packs d result }
+// The 32 bits of a date, which unpack to the same date; refused for a field out of its range.
+#[tactic(auto, using(crate::proofs::Dates::out_of_range))]
+pub fn pack_date(d: Date) -> Result<u32, Fault>
+    ensures { Packs d (answer_of result) }
 {
-    let year = d.year;
-    let month = d.month;
-    let day = d.day;
-    let hour = d.hour;
-    let minute = d.minute;
-    let second = d.second;
-    if year < 1995 {
-        return refused(18, 0);
+    if d.year < 1995
+        || 2058 < d.year
+        || 15 < d.month
+        || 31 < d.day
+        || 31 < d.hour
+        || 63 < d.minute
+        || 63 < d.second
+    {
+        return Err(Fault {
+            reason: Reason::Date,
+            place: 0,
+        });
     }
-    if 2058 < year {
-        return refused(18, 0);
-    }
-    if 15 < month {
-        return refused(18, 0);
-    }
-    if 31 < day {
-        return refused(18, 0);
-    }
-    if 31 < hour {
-        return refused(18, 0);
-    }
-    if 63 < minute {
-        return refused(18, 0);
-    }
-    if 63 < second {
-        return refused(18, 0);
-    }
-    let packed = (year - 1995) * 67108864
-        + month * 4194304
-        + day * 131072
-        + hour * 4096
-        + minute * 64
-        + second;
-    finished(packed as u64)
+    Ok(
+        (d.year - 1995) * 67108864
+            + d.month * 4194304
+            + d.day * 131072
+            + d.hour * 4096
+            + d.minute * 64
+            + d.second,
+    )
 }
 
 // The six fields of any 32 bits; packed, they give the same 32 bits.

@@ -5,10 +5,10 @@ ghost use Rattle.std.specs.Prelude.{◌≡◌};
 ghost use Rattle.wire.specs.Answer.{Gives};
 ghost use Rattle.directory.specs.Dir.{dir_in, head_dir_in, head_in, head_answer, sub_in, sub_answer};
 
-use key::piece::{Piece, read_piece};
+use key::piece::read_record;
 use record::{is_file, is_plain_record, is_unpacked};
 use wire::number::{be_offset, be16, be32, width};
-use wire::text::{Found, read_text};
+use wire::text::read_text;
 
 #[derive(Clone, Copy)]
 pub struct DirHead {
@@ -19,32 +19,27 @@ pub struct DirHead {
     pub seekkeys: u64,
 }
 
-#[derive(Clone, Copy)]
-pub enum Dir {
-    Held(DirHead),
-    Bad,
-}
-
 // The directory header at a place, if it lies before end and its version is at most 2000.
-fn read_dir(s: &[u8], at: usize, end: usize) -> Dir
+#[tactic(auto, using(std::proofs::lemmas::Bool::Decides::nat_tests), unfolding(crate::specs::Dir::dir_in, crate::specs::Dir::dir_at))]
+fn read_dir(s: &[u8], at: usize, end: usize) -> Option<DirHead>
     ensures { result ≡ dir_in s.now at end }
 {
     if s.len() < end {
-        return Dir::Bad;
+        return None;
     }
     if end < at {
-        return Dir::Bad;
+        return None;
     }
     let version = be16(s, at);
     let wide = 1000 < version;
     let w = width(wide);
     if end - at < 18 + 3 * w {
-        return Dir::Bad;
+        return None;
     }
     if 2000 < version {
-        return Dir::Bad;
+        return None;
     }
-    Dir::Held(DirHead {
+    Some(DirHead {
         nbyteskeys: be32(s, at + 10),
         nbytesname: be32(s, at + 14),
         seekdir: be_offset(s, at + 18, wide),
@@ -54,47 +49,41 @@ fn read_dir(s: &[u8], at: usize, end: usize) -> Dir
 }
 
 // The head's directory header after its key at a place: a name, a title, then the header.
-fn head_dir(s: &[u8], at: usize, end: usize, nbytesname: u32) -> Dir
+#[tactic(auto, using(crate::proofs::Headings::tests), unfolding(crate::specs::Dir::head_dir_in, crate::specs::Dir::kept_if, wire::specs::Text::on_text))]
+fn head_dir(s: &[u8], at: usize, end: usize, nbytesname: u32) -> Option<DirHead>
     ensures { result ≡ head_dir_in s.now at end nbytesname }
 {
-    let Found::Held(name) = read_text(s, at, end) else {
-        return Dir::Bad;
-    };
+    let name = read_text(s, at, end)?;
     let second = name.next;
-    let Found::Held(title) = read_text(s, second, end) else {
-        return Dir::Bad;
-    };
+    let title = read_text(s, second, end)?;
     let third = title.next;
-    let Dir::Held(d) = read_dir(s, third, end) else {
-        return Dir::Bad;
-    };
+    let d = read_dir(s, third, end)?;
     if d.seekdir != 100 {
-        return Dir::Bad;
+        return None;
     }
     if d.seekparent != 0 {
-        return Dir::Bad;
+        return None;
     }
     if d.nbytesname as u64 + 100 != third as u64 {
-        return Dir::Bad;
+        return None;
     }
     if nbytesname as u64 + 100 != third as u64 {
-        return Dir::Bad;
+        return None;
     }
-    Dir::Held(d)
+    Some(d)
 }
 
-// The head: a plain unpacked record of class TFile at 100, and its directory header; else 8 at 100.
-pub fn read_head(file: &[u8], nbytesname: u32) -> Dir
+// The head: a plain unpacked record of class TFile at 100, and its directory header; else none: Head at 100.
+#[tactic(auto, using(crate::proofs::Headings::tests), unfolding(crate::specs::Dir::head_in))]
+pub fn read_head(file: &[u8], nbytesname: u32) -> Option<DirHead>
     ensures { Gives head_answer result (head_in file.now nbytesname) }
 {
-    let Piece::Record(k) = read_piece(file, 100) else {
-        return Dir::Bad;
-    };
+    let k = read_record(file, 100)?;
     if !is_plain_record(k) {
-        return Dir::Bad;
+        return None;
     }
     if !is_file(file, k.class) {
-        return Dir::Bad;
+        return None;
     }
     head_dir(
         file,
@@ -104,27 +93,24 @@ pub fn read_head(file: &[u8], nbytesname: u32) -> Dir
     )
 }
 
-// A subdirectory's header, which follows its key, for a listing directory; else 11 at the subdirectory.
-pub fn read_sub(file: &[u8], at: usize, parent: usize) -> Dir
+// A subdirectory's header, which follows its key, for a listing directory; else none: Directory at the subdirectory.
+#[tactic(auto, using(crate::proofs::Headings::tests), unfolding(crate::specs::Dir::sub_in, crate::specs::Dir::kept_if))]
+pub fn read_sub(file: &[u8], at: usize, parent: usize) -> Option<DirHead>
     ensures { Gives (sub_answer at) result (sub_in file.now at parent) }
 {
-    let Piece::Record(k) = read_piece(file, at) else {
-        return Dir::Bad;
-    };
+    let k = read_record(file, at)?;
     if !is_unpacked(k) {
-        return Dir::Bad;
+        return None;
     }
-    let Dir::Held(d) = read_dir(file, at + k.keylen as usize, at + k.nbytes as usize) else {
-        return Dir::Bad;
-    };
+    let d = read_dir(file, at + k.keylen as usize, at + k.nbytes as usize)?;
     if d.seekdir != at as u64 {
-        return Dir::Bad;
+        return None;
     }
     if d.seekparent != parent as u64 {
-        return Dir::Bad;
+        return None;
     }
     if d.nbytesname != k.keylen {
-        return Dir::Bad;
+        return None;
     }
-    Dir::Held(d)
+    Some(d)
 }

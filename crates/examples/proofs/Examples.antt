@@ -18,16 +18,16 @@ use Rattle.rules.specs.Free.{segments_at, segments_end, segment_version, version
 use Rattle.rules.specs.Order.{chain, ruled, verdict}
 use Rattle.rules.specs.Row.{starts}
 use Rattle.rules.specs.Turn.{row_of, listed_mark, copy_turn, copies, data_turn, keys_in, keys_turn, dir_turn, round_turn, next_row, rounds, first_part}
-use Rattle.infofield.specs.Field.{and_then, field_at, numbers_at, end_of, count_at, counted, versioned_at, versioned, ended_at}
+use Rattle.infofield.specs.Field.{field_at, numbers_at, end_of, count_at, versioned_at, ended_at}
 use Rattle.infofield.specs.Field.{text_field_at, unnamed_at, zero_at, object_at}
 use Rattle.classname.specs.Find.{first_in}
-use Rattle.classname.specs.Name.{class_in, class_of}
-use Rattle.infotag.specs.Tag.{class_name_at, new_tag, old_tag, tag_at, head_at, headed}
-use Rattle.infoelement.specs.Element.{named_at, with_name, class_body_at, details_at, base_at, with_fields, counter_at, own_at, member_at}
-use Rattle.infolist.specs.List.{collection_at, with_objects, array_body_at, whole_list_at, list_of, info_list_at, option_at}
+use Rattle.classname.specs.Name.{class_of}
+use Rattle.infotag.specs.Tag.{class_name_at, new_tag, old_tag, tag_at, head_at}
+use Rattle.infoelement.specs.Element.{named_at, class_body_at, details_at, base_at, counter_at, own_at, member_at}
+use Rattle.infolist.specs.List.{collection_at, array_body_at, whole_list_at, list_of, info_list_at, option_at}
 use Rattle.inforow.specs.Row.{flat}
 use Rattle.streamer.specs.Row.{times, onward, element_at}
-use Rattle.streamer.specs.Info.{array_at, class_at, list_object_at, info_at}
+use Rattle.streamer.specs.Info.{elements_at, array_at, class_at, list_object_at, info_at}
 use Rattle.streamer.specs.Info.{info_answer, info_table}
 use Rattle.examples.specs.Worked.{examples}
 
@@ -38,8 +38,8 @@ unfolding eq_bytes width_of be_value num_at be_bytes signed_of bits_of prefix_by
     dir_at dir_in kept_if head_dir_in head_in dir_of data_in free_in list_class list_in copy_in segments_at segments_end segment_version versions_fit
     gaps last_fits list_gaps held_to free_holds info_holds chain ruled verdict starts row_of listed_mark copy_turn copies data_turn keys_in keys_turn
     dir_turn round_turn next_row rounds first_part
-    and_then field_at numbers_at end_of count_at counted versioned_at versioned ended_at text_field_at unnamed_at zero_at object_at first_in class_in
-    class_of class_name_at new_tag old_tag tag_at head_at headed named_at with_name class_body_at details_at base_at with_fields counter_at own_at member_at
-    collection_at with_objects array_body_at whole_list_at list_of info_list_at option_at flat times onward element_at array_at class_at list_object_at
+    field_at numbers_at end_of count_at versioned_at ended_at text_field_at unnamed_at zero_at object_at first_in
+    class_of class_name_at new_tag old_tag tag_at head_at named_at class_body_at details_at base_at counter_at own_at member_at
+    collection_at array_body_at whole_list_at list_of info_list_at option_at flat times onward element_at elements_at array_at class_at list_object_at
     info_at info_answer info_table
 worked = refl

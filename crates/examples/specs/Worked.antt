@@ -1,6 +1,6 @@
 -- Document 01, "Examples by hand", those marked * and one.root's 0, 7 and 9, and beside them the wide form (document 02, request 02),
 -- a short string in the long form (request 04), options of lists (request 05) and the ten kinds: one table of what the definitions give.
-use Rattle.std.specs.Prelude.{ℕ, false, List, [], ◌∷◌, ◌++◌, length, take, set, replicate}
+use Rattle.std.specs.Prelude.{ℕ, false, List, [], ◌∷◌, ◌++◌, length, take, set, replicate, Option, Some, None}
 use Rattle.wire.specs.Check.{Check, eq, yes}
 use Rattle.date.specs.Date.{pack_answer}
 use Rattle.wire.specs.Equal.{eq_bytes}
@@ -10,9 +10,8 @@ use Rattle.wire.specs.Text.{text_bytes}
 use Rattle.wire.specs.declared.Answer.{Answer}
 use Rattle.date.specs.declared.Date.{Date}
 use Rattle.key.specs.Header.{sum_of, header_in}
+use Rattle.key.specs.declared.header.Key.{Key}
 use Rattle.key.specs.Piece.{piece_at, piece_answer}
-use Rattle.key.specs.declared.header.Header.{Header}
-use Rattle.key.specs.declared.header.Header.TheVariants.{Good, Bad}
 use Rattle.rules.specs.Free.{compared, apart, is_gap}
 use Rattle.rules.specs.Order.{Verdict, verdict, number_of, place_of, count_of, starts_of, parts_of, owners_of}
 use Rattle.rules.specs.Turn.{Turn, going, stop, copy_turn}
@@ -51,9 +50,9 @@ abbrev pub is_gap_of : List ℕ → ℕ → List Check
 is_gap_of s n = yes (is_gap (piece_at s 0)) ∷ answers (piece_answer s 0) 0 0 n
 
 -- the sum of the header at 0
-abbrev pub sum_in : Header → ℕ
-sum_in (Good k) = sum_of k
-sum_in Bad = 0
+abbrev pub sum_in : Option Key → ℕ
+sum_in (Some k) = sum_of k
+sum_in None = 0
 
 abbrev pub sum_at : List ℕ → ℕ
 sum_at s = sum_in (header_in s 0 (length s))

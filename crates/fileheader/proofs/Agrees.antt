@@ -6,18 +6,20 @@ use mathlib.Core.Path.{◌≡◌, sym, ap, ◌∙◌}
 use native.Mathlib.Omega.{arith}
 use lib.Dec.{leb}
 use lib.ListN.{length, get_or}
+use Rattle.std.specs.Prelude.{Ok}
 use Rattle.wire.specs.Agree.{Agree}
 use Rattle.wire.specs.Layout.{width_of, values_at}
 use Rattle.wire.proofs.Agrees.{num_same, values_same}
+use Rattle.wire.proofs.Checks.{yes_all}
 use Rattle.wire.proofs.Layouts.{width_within}
-use Rattle.fileheader.specs.File.{file_layout, is_wide, file_width, file_number, file_head, end_fits, opened_as}
+use Rattle.fileheader.specs.File.{file_layout, is_wide, file_width, file_number, file_head, end_fits, long_enough, magic, units, bounds, opened_as}
 use Rattle.fileheader.specs.declared.FileHead.{FileHead}
-use Rattle.fileheader.specs.declared.Opened.TheVariants as opened
-use Rattle.fileheader.proofs.Opens.{Opens, from_opened, opens}
+use Rattle.fileheader.proofs.Opens.{Opens, from_opened}
 
 module _ (s : List ℕ) {h : FileHead} where
-  opened_is : Opens s h → opened.Good h ≡ opened_as s
-  opened_is o = opens s o.long o.magic_is o.units_is o.bounds_is o.is
+  opened_is : Opens s h → Ok h ≡ opened_as s
+  unfolding opened_as
+  opened_is o = rw (yes_all (long_enough s) o.long, yes_all (magic s) o.magic_is, yes_all (units s) o.units_is, yes_all (bounds s) o.bounds_is) (ap Ok o.is)
 
 -- the numbers of two headers of 100 bytes that agree
 module _ (s t : List ℕ) (g : Agree s t 0 100) where
@@ -44,7 +46,7 @@ module _ (s t : List ℕ) (g : Agree s t 0 100) where
 
 -- and in a file of the same length the one is good where the other is
 module _ (s t : List ℕ) (len : length s ≡ length t) (g : Agree s t 0 100) where
-  pub opened_same : {h : FileHead} → opened.Good h ≡ opened_as s → opened.Good h ≡ opened_as t
+  pub opened_same : {h : FileHead} → Ok h ≡ opened_as s → Ok h ≡ opened_as t
   opened_same e =
       let o = from_opened s e in
       opened_is t (record {

@@ -1,13 +1,14 @@
 -- The file header: document 01, "The header, 100 bytes" and the rule Header; document 02, request 02.
-use Rattle.std.specs.Prelude.{ℕ, Bool, true, false, List, [], ◌∷◌, leb, length, get_or}
-use Rattle.wire.specs.Answer.{done, refusal}
+use Rattle.std.specs.Prelude.{ℕ, Bool, true, false, List, [], ◌∷◌, leb, length, get_or, Result, Ok, Err}
+use Rattle.wire.specs.Answer.{done}
 use Rattle.wire.specs.Check.{Check, le, eq, yes, all, pick}
+use Rattle.wire.specs.Fault.{fault, fault_answer}
 use Rattle.wire.specs.Layout.{width_of, values_at}
 use Rattle.wire.specs.Number.{num_at}
 use Rattle.wire.specs.declared.Answer.{Answer}
+use Rattle.wire.specs.declared.fault.Fault.{Fault}
+use Rattle.wire.specs.declared.fault.Reason.TheVariants as reason
 use Rattle.fileheader.specs.declared.FileHead.{FileHead}
-use Rattle.fileheader.specs.declared.Opened.{Opened}
-use Rattle.fileheader.specs.declared.Opened.TheVariants.{Good, Refused}
 
 -- "root", Version, BEGIN, END, SeekFree, NbytesFree, nfree, NbytesName, Units (1), Compress, SeekInfo, NbytesInfo
 abbrev pub file_layout : ℕ → List ℕ
@@ -57,15 +58,17 @@ abbrev pub bounds : List ℕ → List Check
 bounds s = eq (file_number s 2) 100 ∷ eq (file_number s 3) (length s) ∷ yes (end_fits (is_wide s) (length s)) ∷ []
 
 -- the header, or the first of 1 to 4 that does not hold
-unfoldable pub opened_as : List ℕ → Opened
+unfoldable pub opened_as : List ℕ → Result FileHead Fault
 opened_as s =
     pick (all (long_enough s))
     (pick (all (magic s))
-    (pick (all (units s)) (pick (all (bounds s)) (Good (file_head s)) (Refused 4)) (Refused 3))
-    (Refused 2))
-    (Refused 1)
+    (pick (all (units s))
+    (pick (all (bounds s)) (Ok (file_head s)) (Err (fault reason.Bounds 0)))
+    (Err (fault reason.Wide 0)))
+    (Err (fault reason.Magic 0)))
+    (Err (fault reason.Short 0))
 
--- number, place and count of each case: 1 to 4 are at 0
-abbrev pub open_answer : Opened → Answer
-open_answer (Good h) = done 0
-open_answer (Refused c) = refusal c 0
+-- number, place and count of each case
+abbrev pub open_answer : Result FileHead Fault → Answer
+open_answer (Ok h) = done 0
+open_answer (Err f) = fault_answer f

@@ -3,8 +3,10 @@
 
 ghost use Rattle.std.specs.Prelude.{◌≡◌};
 ghost use Rattle.wire.specs.Answer.{Gives};
+ghost use Rattle.wire.specs.Fault.{fault};
 ghost use Rattle.fileheader.specs.File.{is_wide, file_number, file_head, end_fits, opened_as, open_answer};
 
+use wire::fault::{Fault, Reason};
 use wire::number::{be_offset, be8, be32, width};
 
 // What the audit needs of a good header.
@@ -19,13 +21,8 @@ pub struct FileHead {
     pub nbytesinfo: u32,
 }
 
-#[derive(Clone, Copy)]
-pub enum Opened {
-    Good(FileHead),
-    Refused(u32),
-}
-
 // The fields of a header, in the wide form or not.
+#[tactic(auto, using(crate::proofs::Opens::placed), unfolding(crate::specs::File::file_head))]
 fn read_fields(file: &[u8], wide: bool) -> FileHead
     requires { wide ≡ is_wide file.now }
     ensures { result ≡ file_head file.now }
@@ -45,47 +42,53 @@ fn read_fields(file: &[u8], wide: bool) -> FileHead
     }
 }
 
+// Whether offsets are wide, as Version says.
+fn is_wide(file: &[u8]) -> bool
+    ensures { result ≡ is_wide file.now }
+{
+    1000000 <= be32(file, 4)
+}
+
 // END, as the header at the front of some bytes has it, in the width that its Version says; 0 where they end before it.
 pub fn end_of(file: &[u8]) -> u64
     ensures { result ≡ file_number file.now 3 }
 {
-    be_offset(file, 12, 1000000 <= be32(file, 4))
+    be_offset(file, 12, is_wide(file))
 }
 
 // Whether END is within its limit, which wide files do not have.
+#[tactic(auto, unfolding(crate::specs::File::end_fits))]
 fn end_fits(wide: bool, end: usize) -> bool
     ensures { result ≡ end_fits wide end }
 {
-    if wide {
-        return true;
-    }
-    end <= 1999999999
+    wide || end <= 1999999999
 }
 
-// The header of a whole file, or the first of 1 to 4 that it breaks, at 0.
-pub fn open(file: &[u8]) -> Opened
+// The header of a whole file, or the first of Short to Bounds that it breaks, at 0.
+#[tactic(auto, using(crate::proofs::Opens::tests), unfolding(crate::specs::File::opened_as))]
+pub fn open(file: &[u8]) -> Result<FileHead, Fault>
     ensures { Gives open_answer result (opened_as file.now) }
 {
     let end = file.len();
     if end < 100 {
-        return Opened::Refused(1);
+        return Err(Reason::Short.at(0));
     }
     if be32(file, 0) != 1919905652 {
-        return Opened::Refused(2);
+        return Err(Reason::Magic.at(0));
     }
-    let wide = 1000000 <= be32(file, 4);
+    let wide = is_wide(file);
     let w = width(wide);
     if be8(file, w + w + 24) as usize != w {
-        return Opened::Refused(3);
+        return Err(Reason::Wide.at(0));
     }
     if be32(file, 8) != 100 {
-        return Opened::Refused(4);
+        return Err(Reason::Bounds.at(0));
     }
     if be_offset(file, 12, wide) != end as u64 {
-        return Opened::Refused(4);
+        return Err(Reason::Bounds.at(0));
     }
     if !end_fits(wide, end) {
-        return Opened::Refused(4);
+        return Err(Reason::Bounds.at(0));
     }
-    Opened::Good(read_fields(file, wide))
+    Ok(read_fields(file, wide))
 }

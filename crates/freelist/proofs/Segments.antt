@@ -9,18 +9,18 @@ use borrow.Author.Tests.{eq-eqb, le-leb, eqb-true}
 use lib.Dec.{eqb, leb}
 use lib.ListN.{length, get_or, take, drop, drop_of_length-le}
 use lib.Seq.{drop-cons}
+use Rattle.std.specs.Prelude.{Some, None}
+use Rattle.std.proofs.lemmas.Bool.Decides.{nat_tests}
 use Rattle.wire.specs.Check.{all, All}
-use Rattle.wire.specs.Layout.{offset_width}
 use Rattle.wire.specs.Number.{num_at}
-use Rattle.wire.proofs.Checks.{picked, not_picked, from_picked, from_not_picked, not_all, false_true}
+use Rattle.wire.proofs.Checks.{from_picked, from_not_picked, not_all, false_true}
 use Rattle.key.specs.Piece.{piece_at}
 use Rattle.record.proofs.Tests.{and_true}
 use Rattle.rules.specs.Free.{segment_end, segments_at, segments_end, segment_version, versions_fit, segments_fit, gap_last, gaps, last_fits, list_gaps, held_to}
 use Rattle.rows.specs.Gap.{gap_of}
-use Rattle.rows.proofs.Gaps.{gap_none, gap_some}
+use Rattle.rows.proofs.Gaps.{gap_none, gap_some, gap_ends}
 use Rattle.freelist.specs.Segment.{first_at, last_at, stands, segment_in, segment_is, after_segment, final_is, segments_are, segments_stand}
 use Rattle.freelist.specs.declared.Segment.{Segment}
-use Rattle.freelist.specs.declared.Listed.TheVariants.{Held, Bad}
 
 -- tests of a segment, and of a list that begins with it
 miss : (x y z v e : Bool) → (x && (y && (z && true))) ≡ false → ((x && v) && (y && (z && e))) ≡ false
@@ -35,13 +35,6 @@ regroup true true false d = refl
 regroup true false c d = refl
 regroup false b c d = refl
 
--- what the code reads by the width w that Version v says
-pub last_read : (s : List ℕ) (a : ℕ) {v w r : ℕ} → v ≡ num_at 2 s a → w ≡ offset_width v → r ≡ num_at (offset_width v) s (a + (2 + w))
-    → r ≡ last_at s a
-last_read s a i j k =
-    let e : a + (2 + offset_width (num_at 2 s a)) ≡ a + 2 + offset_width (num_at 2 s a) = omega arith in
-    rw (j, i, e) at k
-
 -- segments end where they begin or after
 ends_past : (s : List ℕ) (n a : ℕ) → a ≤ segments_end s n a
 unfolding segments_end
@@ -49,16 +42,6 @@ ends_past s zero a = omega arith
 ends_past s (suc n) a = omega (arith, ends_past s n (segment_end s a))
 
 module _ (wide : Bool) (s : List ℕ) (a end : ℕ) where
-  -- the segment that is read, or none
-  pub held : {g : Segment} → All (stands wide s a end) → g.first ≡ first_at s a → g.last ≡ last_at s a → g.next ≡ segment_end s a
-      → Held g ≡ segment_in wide s a end
-  unfolding segment_in
-  held h f l n = ap Held (λ i. record { first = f i; last = l i; next = n i }) ∙ sym (picked (stands wide s a end) _ _ h)
-
-  pub bad : (All (stands wide s a end) → ⊥) → Bad ≡ segment_in wide s a end
-  unfolding segment_in
-  bad h = sym (not_picked (stands wide s a end) _ _ h)
-
   -- what it says
   pub record Read (g : Segment) : Type 0 where
     pub fits : All (stands wide s a end)
@@ -66,46 +49,25 @@ module _ (wide : Bool) (s : List ℕ) (a end : ℕ) where
     pub last : g.last ≡ last_at s a
     pub next : g.next ≡ segment_end s a
 
-  pub from_held : {g : Segment} → Held g ≡ segment_in wide s a end → Read g
+  pub from_held : {g : Segment} → Some g ≡ segment_in wide s a end → Read g
   unfolding segment_in
   from_held {g} e =
-      let f = from_picked (stands wide s a end) _ Bad e (λ i. let z : ◌≡◌ {A = ℕ} 0 1 = cc in omega arith) in
+      let f = from_picked (stands wide s a end) _ None e (λ i. cc) in
       let i = f.0 in
       record { fits = f.1; first = cc; last = cc; next = cc }
 
-  pub from_bad : Bad ≡ segment_in wide s a end → All (stands wide s a end) → ⊥
+  pub from_bad : None ≡ segment_in wide s a end → All (stands wide s a end) → ⊥
   unfolding segment_in
-  from_bad e h = from_not_picked (stands wide s a end) _ Bad e (λ i. let z : ◌≡◌ {A = ℕ} 0 1 = cc in omega arith) h
-
-  -- the last test of the final one decides
-  pub final_decides : {g : Segment} {r : Bool} → Read g → g.next ≡ end → g.first ≡ length s → r ≡ last_fits wide (length s) g.last
-      → r ≡ all (final_is wide s a end)
-  final_decides h n f e =
-      rw (
-        eq-eqb (segment_end s a) end (sym h.next ∙ n),
-        le-leb (num_at 2 s a) (segment_version wide) h.fits.1.0,
-        eq-eqb (first_at s a) (length s) (sym h.first ∙ f),
-      )
-      (e ∙ ap (last_fits wide (length s)) h.last ∙ and_true (last_fits wide (length s) (last_at s a)))
+  from_bad e h = from_not_picked (stands wide s a end) _ None e (λ i. cc) h
 
   module _ (first last : ℕ) where
-    -- the place after a segment with these ends, or 0
-    pub after_is : {r : ℕ} → All (segment_is wide s a end first last) → r ≡ segment_end s a → r ≡ after_segment wide s a end first last
+    from_after : {r : ℕ} → Some r ≡ after_segment wide s a end first last → (r ≡ segment_end s a) × All (segment_is wide s a end first last)
     unfolding after_segment
-    after_is h e = e ∙ sym (picked (segment_is wide s a end first last) _ _ h)
+    from_after e = let f = from_picked (segment_is wide s a end first last) _ None e (λ i. cc) in let g = f.0 in (cc, f.1)
 
-    pub after_none : (All (segment_is wide s a end first last) → ⊥) → 0 ≡ after_segment wide s a end first last
+    from_none : None ≡ after_segment wide s a end first last → All (segment_is wide s a end first last) → ⊥
     unfolding after_segment
-    after_none h = sym (not_picked (segment_is wide s a end first last) _ _ h)
-
-    from_after : {r : ℕ} → r ≡ after_segment wide s a end first last → (r ≡ 0 → ⊥)
-        → (r ≡ segment_end s a) × All (segment_is wide s a end first last)
-    unfolding after_segment
-    from_after e n = from_picked (segment_is wide s a end first last) _ 0 e n
-
-    from_none : {r : ℕ} → r ≡ after_segment wide s a end first last → r ≡ 0 → All (segment_is wide s a end first last) → ⊥
-    unfolding after_segment
-    from_none e z h = let f = e ∙ picked (segment_is wide s a end first last) _ _ h in omega arith
+    from_none e = from_not_picked (segment_is wide s a end first last) _ None e (λ i. cc)
 
     -- the next segment is first and last, or not
     fit : (n : ℕ) (ys : List ℕ) → All (segment_is wide s a end first last) → 0 < n
@@ -190,21 +152,23 @@ module _ (wide : Bool) (s : List ℕ) (a end : ℕ) where
   unfolding segments_stand held_to segments_at
   stand_nothing = not_alone 0 (λ e. omega arith)
 
+pub ruleset finals = (nat_tests, and_true)
+
+pub nothing_left : (wide : Bool) (s : List ℕ) (end count from : ℕ) → count ≡ 0 → false ≡ segments_stand wide s end count from
+nothing_left wide s end count from e = sym (ap (λ (j : ℕ). segments_stand wide s end j from) e ∙ stand_nothing wide s from end)
+
 -- while segments are passed over: those that are left decide
 pub record Passing (wide : Bool) (s : List ℕ) (end count from at left : ℕ) : Type 0 where
   pub stand : segments_stand wide s end count from ≡ segments_stand wide s end left at
 
 module _ {wide : Bool} {s : List ℕ} {end count from at left : ℕ} (m : Passing wide s end count from at left) where
-  pub next_passed : {g : Segment} → Held g ≡ segment_in wide s at end → 1 < left → Passing wide s end count from g.next (left - 1)
+  pub next_passed : {g : Segment} → Some g ≡ segment_in wide s at end → 1 < left → Passing wide s end count from g.next (left - 1)
   next_passed e l =
       let r = from_held wide s at end e in
       rw r.next (record { stand = m.stand ∙ stand_next wide s at end left r.fits l })
 
-  pub next_bad : Bad ≡ segment_in wide s at end → 1 < left → false ≡ segments_stand wide s end count from
+  pub next_bad : None ≡ segment_in wide s at end → 1 < left → false ≡ segments_stand wide s end count from
   next_bad e l = sym (m.stand ∙ stand_none wide s at end left (from_bad wide s at end e) l)
-
-  pub nothing_left : left ≡ 0 → false ≡ segments_stand wide s end count from
-  nothing_left e = sym (m.stand ∙ ap (λ (j : ℕ). segments_stand wide s end j at) e ∙ stand_nothing wide s at end)
 
   pub last_left : {r : Bool} → left ≡ 1 → r ≡ all (final_is wide s at end) → r ≡ segments_stand wide s end count from
   last_left e h = h ∙ sym (m.stand ∙ ap (λ (j : ℕ). segments_stand wide s end j at) e ∙ stand_last wide s at end)
@@ -247,14 +211,14 @@ module _ {wide : Bool} {s qs : List ℕ} {end count from at left i : ℕ} (m : M
       pub none_left : left ≡ 0 → Whole false
       none_left e = sym (opened ∙ rw e (none wide s at end q _))
 
-      module _ {r : ℕ} (told : r ≡ after_segment wide s at end q (gap_last q n)) where
-        pub matched : (r ≡ 0 → ⊥) → 0 < left → Matching wide s qs end count from r (left - 1) (i + 1)
-        matched e k =
-            let f = from_after wide s at end q (gap_last q n) told e in
-            rw f.0 (record { within = omega arith; is = opened ∙ fit wide s at end q (gap_last q n) left _ f.1 k })
+      pub matched : {r : ℕ} → Some r ≡ after_segment wide s at end q (gap_last q n) → 0 < left
+          → Matching wide s qs end count from r (left - 1) (i + 1)
+      matched told k =
+          let f = from_after wide s at end q (gap_last q n) told in
+          rw f.0 (record { within = omega arith; is = opened ∙ fit wide s at end q (gap_last q n) left _ f.1 k })
 
-        pub unmatched : r ≡ 0 → Whole false
-        unmatched e = sym (opened ∙ unfit wide s at end q (gap_last q n) left _ (from_none wide s at end q (gap_last q n) told e))
+      pub unmatched : None ≡ after_segment wide s at end q (gap_last q n) → Whole false
+      unmatched told = sym (opened ∙ unfit wide s at end q (gap_last q n) left _ (from_none wide s at end q (gap_last q n) told))
 
   module _ (l : length qs ≤ i) where
     over : segments_are wide s end (gaps s qs) count from ≡ segments_are wide s end [] left at
@@ -266,3 +230,5 @@ module _ {wide : Bool} {s qs : List ℕ} {end count from at left i : ℕ} (m : M
 
     pub ended : {r : Bool} → left ≡ 1 → r ≡ all (final_is wide s at end) → Whole r
     ended e h = h ∙ sym (over ∙ ap (λ (j : ℕ). segments_are wide s end [] j at) e ∙ alone wide s at end)
+
+pub ruleset matches = (gap_ends, began, passed_over, none_left, matched, unmatched, left_over)

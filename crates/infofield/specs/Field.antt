@@ -1,31 +1,34 @@
 -- Fields, ByteCounts and ends of objects: document 01, "StreamerInfo (002)".
-use Rattle.std.specs.Prelude.{ℕ, zero, suc, ◌+◌, ◌/◌, ◌%◌, List, [], ◌∷◌, leb, eqb}
+use Rattle.std.specs.Prelude.{ℕ, zero, suc, ◌+◌, ◌/◌, ◌%◌, List, [], ◌∷◌, leb, eqb, Option, Some, None, Result, Ok, Err}
 use Rattle.wire.specs.Check.{Check, le, eq, all, pick}
+use Rattle.wire.specs.Fault.{fault}
 use Rattle.wire.specs.Number.{num_at}
 use Rattle.wire.specs.Text.{text_in}
-use Rattle.wire.specs.declared.text.Found.{Found}
-use Rattle.wire.specs.declared.text.Found.TheVariants.{Held, Cut}
-use Rattle.infofield.specs.declared.field.Step.{Step}
-use Rattle.infofield.specs.declared.field.Step.TheVariants.{Next, Wrong}
+use Rattle.wire.specs.declared.fault.Fault.{Fault}
+use Rattle.wire.specs.declared.fault.Reason.TheVariants as reason
+use Rattle.wire.specs.declared.text.Text.{Text}
 use Rattle.infofield.specs.declared.field.Body.{Body}
-use Rattle.infofield.specs.declared.field.Opened.{Opened}
-use Rattle.infofield.specs.declared.field.Opened.TheVariants as opened
-use Rattle.infofield.specs.declared.field.Count.{Count}
-use Rattle.infofield.specs.declared.field.Count.TheVariants.{Open, Bad}
 
--- "the first faulty field in byte order decides": reading goes on where a step ended; w makes the answer of a fault
-unfoldable pub and_then : {A : Type 0} → (ℕ → ℕ → A) → Step → (ℕ → A) → A
-and_then w (Next q) f = f q
-and_then w (Wrong c p) f = w c p
+-- "the first faulty field in byte order decides": reading goes on with what a step gave, or its fault is the answer
+infixl 10 ◌>>=◌
+abbrev pub ◌>>=◌ : {A B : Type 0} → Result A Fault → (A → Result B Fault) → Result B Fault
+Ok a >>= f = f a
+Err d >>= f = Err d
+
+-- a field at p that is 21 there
+abbrev pub bad_field : ℕ → Fault
+bad_field p = fault reason.Count p
 
 -- "a field past the innermost open end .. is 21 at that field": n bytes at p, the innermost open end e
-unfoldable pub field_at : ℕ → ℕ → ℕ → Step
-field_at n p e = pick (leb (p + n) e) (Next (p + n)) (Wrong 21 p)
+unfoldable pub field_at : ℕ → ℕ → ℕ → Result ℕ Fault
+field_at n p e = pick (leb (p + n) e) (Ok (p + n)) (Err (bad_field p))
 
 -- k numbers of four bytes
-unfoldable pub numbers_at : ℕ → ℕ → ℕ → Step
-numbers_at zero p e = Next p
-numbers_at (suc k) p e = and_then Wrong (numbers_at k p e) (λ q. field_at 4 q e)
+unfoldable pub numbers_at : ℕ → ℕ → ℕ → Result ℕ Fault
+numbers_at zero p e = Ok p
+numbers_at (suc k) p e = do
+  q ← numbers_at k p e
+  field_at 4 q e
 
 -- the end that the ByteCount at p gives its object: it counts the bytes after it
 unfoldable pub end_of : List ℕ → ℕ → ℕ
@@ -35,52 +38,47 @@ end_of s p = p + 4 + num_at 4 s p % 1073741824
 abbrev pub counts : List ℕ → ℕ → ℕ → List Check
 counts s p e = eq (num_at 4 s p / 1073741824) 1 ∷ le (end_of s p) e ∷ []
 
--- the ByteCount at p: where the content starts, and the object's end
-unfoldable pub count_at : List ℕ → ℕ → ℕ → Count
-count_at s p e = pick (all (counts s p e)) (Open (p + 4) (end_of s p)) Bad
-
--- an object with a ByteCount at p; a bad one is 21 there
-unfoldable pub counted : {A : Type 0} → (ℕ → ℕ → A) → Count → ℕ → (ℕ → ℕ → A) → A
-counted w (Open q f) p body = body q f
-counted w Bad p body = w 21 p
+-- the ByteCount at p: where the content starts, and the object's end; a bad one is 21 there
+unfoldable pub count_at : List ℕ → ℕ → ℕ → Result Body Fault
+count_at s p e = pick (all (counts s p e)) (Ok (record { from = p + 4; close = end_of s p })) (Err (bad_field p))
 
 -- an object with a ByteCount at p and a Version (2): where its content goes on, and its end
-unfoldable pub versioned_at : List ℕ → ℕ → ℕ → Opened
-versioned_at s p e =
-    counted opened.Wrong (count_at s p e) p (λ q f.
-    and_then opened.Wrong (field_at 2 q f) (λ a. opened.Held (record { from = a; close = f })))
-
-unfoldable pub versioned : {A : Type 0} → (ℕ → ℕ → A) → Opened → (Body → A) → A
-versioned w (opened.Held b) f = f b
-versioned w (opened.Wrong c p) f = w c p
+unfoldable pub versioned_at : List ℕ → ℕ → ℕ → Result Body Fault
+versioned_at s p e = do
+  b ← count_at s p e
+  q ← field_at 2 b.from b.close
+  Ok (record { from = q; close = b.close })
 
 -- "an object ending early is 21 where it stopped": the content stopped at p, the object ends at e
-unfoldable pub ended_at : ℕ → ℕ → Step
-ended_at p e = pick (eqb p e) (Next p) (Wrong 21 p)
+unfoldable pub ended_at : ℕ → ℕ → Result ℕ Fault
+ended_at p e = pick (eqb p e) (Ok p) (Err (bad_field p))
 
 -- "a string with its length byte is one field"; one that is not read whole is 21
-abbrev pub placed : Found → ℕ → Step
-placed (Held t) p = Next t.next
-placed Cut p = Wrong 21 p
+abbrev pub placed : Option Text → ℕ → Result ℕ Fault
+placed (Some t) p = Ok t.next
+placed None p = Err (bad_field p)
 
-unfoldable pub text_field_at : List ℕ → ℕ → ℕ → Step
+unfoldable pub text_field_at : List ℕ → ℕ → ℕ → Result ℕ Fault
 text_field_at s p e = placed (text_in s p e) p
 
 -- "a named list or array .. is 21"
-abbrev pub empty : Found → ℕ → Step
-empty (Held t) p = pick (eqb t.len 0) (Next t.next) (Wrong 21 p)
-empty Cut p = Wrong 21 p
+abbrev pub empty : Option Text → ℕ → Result ℕ Fault
+empty (Some t) p = pick (eqb t.len 0) (Ok t.next) (Err (bad_field p))
+empty None p = Err (bad_field p)
 
-unfoldable pub unnamed_at : List ℕ → ℕ → ℕ → Step
+unfoldable pub unnamed_at : List ℕ → ℕ → ℕ → Result ℕ Fault
 unnamed_at s p e = empty (text_in s p e) p
 
 -- "a nonzero lower bound is 21": the number of four bytes at p is 0
-unfoldable pub zero_at : List ℕ → ℕ → ℕ → Step
-zero_at s p e = and_then Wrong (field_at 4 p e) (λ q. pick (eqb (num_at 4 s p) 0) (Next q) (Wrong 21 p))
+unfoldable pub zero_at : List ℕ → ℕ → ℕ → Result ℕ Fault
+zero_at s p e = do
+  q ← field_at 4 p e
+  pick (eqb (num_at 4 s p) 0) (Ok q) (Err (bad_field p))
 
 -- "a TObject is ten bytes, fields of 2, 4 and 4; bit 4 of the last says referenced, 23"
-unfoldable pub object_at : List ℕ → ℕ → ℕ → Step
-object_at s p e =
-    and_then Wrong (field_at 2 p e) (λ a.
-    and_then Wrong (field_at 4 a e) (λ b.
-    and_then Wrong (field_at 4 b e) (λ c. pick (eqb (num_at 4 s b / 16 % 2) 0) (Next c) (Wrong 23 b))))
+unfoldable pub object_at : List ℕ → ℕ → ℕ → Result ℕ Fault
+object_at s p e = do
+  id ← field_at 2 p e
+  bits ← field_at 4 id e
+  q ← field_at 4 bits e
+  pick (eqb (num_at 4 s bits / 16 % 2) 0) (Ok q) (Err (fault reason.Referenced bits))

@@ -1,10 +1,11 @@
 // What a list and an array start with (document 002), and the option after each object of the list (request 05).
-ghost use Rattle.std.specs.Prelude.{◌≡◌};
-ghost use Rattle.infolist.specs.List.{collection_at, array_body_at, whole_list_at, no_record, info_list_at, option_at};
+ghost use Rattle.std.specs.Prelude.{◌≡◌, ◌+◌, ◌≤◌, IfOk};
+ghost use Rattle.infolist.specs.List.{collection_at, array_body_at, whole_list_at, info_list_at, option_at};
 
-use infofield::field::{Count, Step, field, object, open, text, unnamed, zero};
+use infofield::field::{field, object, open, text, unnamed, zero};
 use key::piece::{Piece, read_piece};
-use record::is_info_key;
+use record::{is_info_key, is_unpacked};
+use wire::fault::{Fault, Reason};
 use wire::number::{be8, be16, be32};
 
 // The objects of a list or an array: its Version, how many there are, where they start, and the end that they stand within.
@@ -16,121 +17,84 @@ pub struct Objects {
     pub end: usize,
 }
 
-// The start of a list or an array, or the first fault: its number and its place.
-#[derive(Clone, Copy)]
-pub enum Collection {
-    Held(Objects),
-    Wrong(u32, usize),
-}
-
 // Version, TObject, no name and nObjects: what every collection starts with, and the place after it.
-fn read_collection(file: &[u8], at: usize, end: usize) -> Collection
-    ensures { result ≡ collection_at file.now at end }
+#[tactic(auto, unfolding(crate::specs::List::collection_at))]
+fn read_collection(file: &[u8], at: usize, end: usize) -> Result<Objects, Fault>
+    ensures value { result ≡ collection_at file.now at end }
+    ensures within { IfOk result (λ n. n.end ≡ end) }
 {
-    let base = match field(2, at, end) {
-        Step::Next(next) => next,
-        Step::Wrong(number, place) => {
-            return Collection::Wrong(number, place);
-        }
-    };
-    let name = match object(file, base, end) {
-        Step::Next(next) => next,
-        Step::Wrong(number, place) => {
-            return Collection::Wrong(number, place);
-        }
-    };
-    let count_at = match unnamed(file, name, end) {
-        Step::Next(next) => next,
-        Step::Wrong(number, place) => {
-            return Collection::Wrong(number, place);
-        }
-    };
-    match field(4, count_at, end) {
-        Step::Next(from) => Collection::Held(Objects {
-            version: be16(file, at),
-            count: be32(file, count_at),
-            from,
-            end,
-        }),
-        Step::Wrong(number, place) => Collection::Wrong(number, place),
-    }
+    let base = field(2, at, end)?;
+    let name = object(file, base, end)?;
+    let count_at = unnamed(file, name, end)?;
+    let from = field(4, count_at, end)?;
+    Ok(Objects {
+        version: be16(file, at),
+        count: be32(file, count_at),
+        from,
+        end,
+    })
 }
 
 // A TObjArray after its tag, up to its objects: its ByteCount, what every collection starts with, and a lower bound of 0; or the first
-// fault, 21 or 23 at the field.
-pub fn read_array(file: &[u8], at: usize, end: usize) -> Collection
-    ensures { result ≡ array_body_at file.now at end }
+// fault, Count or Referenced at the field.
+#[tactic(auto, unfolding(crate::specs::List::array_body_at))]
+pub fn read_array(file: &[u8], at: usize, end: usize) -> Result<Objects, Fault>
+    ensures value { result ≡ array_body_at file.now at end }
+    ensures within { IfOk result (λ n. n.end ≤ end) }
 {
-    let Count::Open(from, close) = open(file, at, end) else {
-        return Collection::Wrong(21, at);
-    };
-    let r = read_collection(file, from, close);
-    let Collection::Held(n) = r else {
-        return r;
-    };
-    match zero(file, n.from, close) {
-        Step::Next(next) => Collection::Held(Objects {
-            version: n.version,
-            count: n.count,
-            from: next,
-            end: close,
-        }),
-        Step::Wrong(number, place) => Collection::Wrong(number, place),
-    }
+    let body = open(file, at, end)?;
+    let objects = read_collection(file, body.from, body.close)?;
+    let from = zero(file, objects.from, body.close)?;
+    Ok(Objects { from, ..objects })
 }
 
 // A list whose ByteCount ends where the data does.
-fn whole_list(file: &[u8], at: usize, end: usize) -> Collection
-    ensures { result ≡ whole_list_at file.now at end }
+#[tactic(auto, unfolding(crate::specs::List::whole_list_at))]
+fn whole_list(file: &[u8], at: usize, end: usize) -> Result<Objects, Fault>
+    ensures value { result ≡ whole_list_at file.now at end }
+    ensures within { IfOk result (λ n. n.end ≤ end) }
 {
-    let Count::Open(from, close) = open(file, at, end) else {
-        return Collection::Wrong(21, at);
-    };
-    if close != end {
-        return Collection::Wrong(21, at);
+    let body = open(file, at, end)?;
+    if body.close != end {
+        return Err(Reason::Count.at(at));
     }
-    read_collection(file, from, close)
+    read_collection(file, body.from, body.close)
 }
 
-// What is answered where no record stands.
-fn no_record(piece: Piece, at: usize) -> Collection
-    ensures { result ≡ no_record piece at }
-{
-    match piece {
-        Piece::Record(_k) => Collection::Wrong(20, at),
-        Piece::Gap(_size) => Collection::Wrong(20, at),
-        Piece::Refused(number, place) => Collection::Wrong(number, place),
-    }
-}
-
-// The list that fills the data of the StreamerInfo record at a place; or 5 or 6 as for a piece, 20 for no such record, 19 for a packed one,
+// The list that fills the data of the StreamerInfo record at a place; or the refusal of a piece, NotInfo for no such record, Packed for a packed one,
 // then the first fault.
-pub fn read_list(file: &[u8], at: usize) -> Collection
-    ensures { result ≡ info_list_at file.now at }
+#[tactic(auto, using(crate::proofs::Lists::record_bounds), unfolding(crate::specs::List::info_list_at, crate::specs::List::list_of))]
+pub fn read_list(file: &[u8], at: usize) -> Result<Objects, Fault>
+    ensures value { result ≡ info_list_at file.now at }
+    ensures near { IfOk result (λ n. n.end ≤ at + 2147483647) }
 {
-    let piece = read_piece(file, at);
-    let Piece::Record(k) = piece else {
-        return no_record(piece, at);
+    let other = Fault {
+        reason: Reason::NotInfo,
+        place: at,
+    };
+    let Piece::Record(k) = read_piece(file, at)? else {
+        return Err(other);
     };
     if !is_info_key(file, k) {
-        return Collection::Wrong(20, at);
+        return Err(other);
     }
-    let objlen = k.objlen;
-    let keylen = k.keylen;
-    let nbytes = k.nbytes;
-    if nbytes - keylen != objlen {
-        return Collection::Wrong(19, at);
+    if !is_unpacked(k) {
+        return Err(Fault {
+            reason: Reason::Packed,
+            place: at,
+        });
     }
-    whole_list(file, at + keylen as usize, at + nbytes as usize)
+    whole_list(file, at + k.keylen as usize, at + k.nbytes as usize)
 }
 
-// The option after an object of a list of this Version: the place after it, or 21 at it. None below 4; in 4 a length byte 0 to 255; from 5
+// The option after an object of a list of this Version: the place after it, or Count at it. None below 4; in 4 a length byte 0 to 255; from 5
 // on a string.
-pub fn read_option(file: &[u8], version: u32, at: usize, end: usize) -> Step
+#[tactic(auto, unfolding(crate::specs::List::option_at))]
+pub fn read_option(file: &[u8], version: u32, at: usize, end: usize) -> Result<usize, Fault>
     ensures { result ≡ option_at version file.now at end }
 {
     if version < 4 {
-        return Step::Next(at);
+        return Ok(at);
     }
     if version < 5 {
         return field(1 + be8(file, at) as usize, at, end);

@@ -5,12 +5,13 @@ use mathlib.Core.Path.{◌≡◌, sym, ◌∙◌}
 use native.Mathlib.Nat.{add-zero, zero-add}
 use native.Mathlib.Omega.{arith}
 use borrow.Author.Tests.{le-leb, lt-leb}
-use borrow.Rule.Slice.PartMut.{mid_of, put_mid}
+use borrow.Rule.Slice.PartMut.{put_mid}
 use lib.Dec.{leb}
+use lib.Seq.{drop-drop}
 use lib.ListN.{length, drop, replicate, length-replicate}
 use Rattle.wire.specs.Check.{pick}
 use Rattle.wire.specs.Patch.{patch}
-use Rattle.wire.proofs.Patches.{length_patch, patch_nil, patch_patch, patch_part}
+use Rattle.wire.proofs.Patches.{length_patch, patch_nil, patch_patch}
 use Rattle.table.specs.Table.{filled}
 use Rattle.inforow.specs.Row.{six, flat, put_row, put_rows}
 use Rattle.inforow.specs.declared.Row.{Row}
@@ -20,10 +21,12 @@ pub no_room : (t : List ℕ) (n : ℕ) (r : Row) → length t / 6 ≤ n → t �
 unfolding put_row
 no_room t n r h = rw (lt-leb (n * 6 + 6) (length t) (omega arith))
 
-pub row_put : (t ys : List ℕ) (n : ℕ) (r : Row) → n < length t / 6
-    → ys ≡ patch (mid_of (n * 6) (length t - n * 6) t) 0 (six r) → put_mid (n * 6) (length t - n * 6) t ys ≡ put_row t n r
-unfolding put_row
-row_put t ys n r h e = rw (le-leb (n * 6 + 6) (length t) (omega arith)) (patch_part t ys (six r) (n * 6) (omega arith) e)
+pub row_put : (t ys : List ℕ) (n : ℕ) (r : Row) → n < length t / 6 → ys ≡ six r
+    → put_mid (n * 6) (n * 6 + 6 - n * 6) t ys ≡ put_row t n r
+unfolding put_row patch
+row_put t ys n r h e =
+    let k : n * 6 + 6 - n * 6 ≡ 6 = omega arith in
+    rw (le-leb (n * 6 + 6) (length t) (omega arith), e, k, drop-drop)
 
 -- rows
 pub more_rows : (t : List ℕ) (n : ℕ) (rs ss : List Row) → put_rows (put_rows t n rs) (n + length rs) ss ≡ put_rows t n (rs ++ ss)

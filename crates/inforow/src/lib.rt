@@ -2,9 +2,8 @@
 // Every public function takes any input and has no precondition.
 #![tactic(auto)]
 
-ghost use Rattle.std.specs.Prelude.{◌≡◌, ◌≤◌, length};
-ghost use Rattle.wire.specs.Patch.{patch};
-ghost use Rattle.inforow.specs.Row.{six, put_row};
+ghost use Rattle.std.specs.Prelude.{◌≡◌};
+ghost use Rattle.inforow.specs.Row.{put_row};
 
 // A row: class index, kind, offsets of the first length byte of the name and of the type name, fType and fArrayLength.
 #[derive(Clone, Copy)]
@@ -17,19 +16,8 @@ pub struct Row {
     pub length: u32,
 }
 
-fn put_six(part: &mut [u32], row: Row)
-    requires { 6 ≤ length part.old }
-    ensures { part.new ≡ patch part.old 0 (six row) }
-{
-    part[0] = row.class;
-    part[1] = row.kind;
-    part[2] = row.name;
-    part[3] = row.typename;
-    part[4] = row.ftype;
-    part[5] = row.length;
-}
-
 // Writes the six numbers of row n, where there is room for all; nothing else is changed.
+#[tactic(auto, using(crate::proofs::Tables::no_room, crate::proofs::Tables::row_put))]
 pub fn put_row(table: &mut [u32], n: usize, row: Row)
     ensures { table.new ≡ put_row table.old n row }
 {
@@ -37,5 +25,13 @@ pub fn put_row(table: &mut [u32], n: usize, row: Row)
         return;
     }
     let at = n * 6;
-    put_six(&mut table[at..], row);
+    let numbers = [
+        row.class,
+        row.kind,
+        row.name,
+        row.typename,
+        row.ftype,
+        row.length,
+    ];
+    table[at..at + 6].copy_from_slice(&numbers);
 }

@@ -16,9 +16,11 @@ use Rattle.wire.proofs.Layouts.{width_within}
 use Rattle.key.specs.Header.{key_layout, fixed_part, width_at, key_from, key_at, sum_of, header_in}
 use Rattle.key.specs.Piece.{size_at, sized, piece_at, size_of}
 use Rattle.key.specs.declared.header.Key.{Key}
-use Rattle.key.specs.declared.header.Header.TheVariants.{Good}
+use Rattle.std.specs.Prelude.{Some}
+use Rattle.std.specs.Prelude.{Result, Ok, Err}
+use Rattle.wire.specs.declared.fault.Fault.{Fault}
 use Rattle.key.specs.declared.piece.Piece.{Piece}
-use Rattle.key.specs.declared.piece.Piece.TheVariants.{Record, Gap, Refused}
+use Rattle.key.specs.declared.piece.Piece.TheVariants.{Record, Gap}
 use Rattle.key.proofs.Headers.{Formed, Strings, names_of, good, strings, placed}
 use Rattle.key.proofs.Names.{all_names}
 use Rattle.key.proofs.Pieces.{View, a_gap, view, size_plus, from_record, from_gap, record_there_law, gap_there, no_gap}
@@ -57,18 +59,18 @@ module _ {s t : List ℕ} (p end : ℕ) {k : Key} (f : Formed s p end k) {a b : 
         (text_kept k.class.next end n h (omega (arith, ends)) (omega (arith, f.sum, ends)) end' (omega (arith, f.sum, ends)) r)
         (text_kept k.name.next end d h (omega (arith, ends)) (omega (arith, f.sum, ends)) end' (omega (arith, f.sum, ends)) r))
 
-    header_kept : Good k ≡ header_in t p end'
+    header_kept : Some k ≡ header_in t p end'
     header_kept = good t p end' strings_same (f.is ∙ key_same) f.fits
 
 module _ (s : List ℕ) (p : ℕ) where
-  gap_size : {n : ℕ} → View s p (Gap n) → n ≡ size_at s p
+  gap_size : {n : ℕ} → View s p (Ok (Gap n)) → n ≡ size_at s p
   gap_size (a_gap h i) = refl
 
-  size_there : {n : ℕ} → piece_at s p ≡ Gap n → n ≡ size_at s p
+  size_there : {n : ℕ} → piece_at s p ≡ Ok (Gap n) → n ≡ size_at s p
   size_there e = gap_size (subst (View s p) e (view s p))
 
   -- the size of a record stands in its first four bytes
-  nbytes_there : {k : Key} → piece_at s p ≡ Record k → k.nbytes ≡ num_at 4 s p
+  nbytes_there : {k : Key} → piece_at s p ≡ Ok (Record k) → k.nbytes ≡ num_at 4 s p
   unfolding key_at
   nbytes_there {k} e =
       let f = (from_record s p e).header in
@@ -80,8 +82,8 @@ module _ (s : List ℕ) (p : ℕ) where
 
 module _ {s t : List ℕ} (p : ℕ) where
   -- a record, of which the bytes of its key's sum agree
-  record_same : {k : Key} → piece_at s p ≡ Record k → {a b : ℕ} → Agree s t a b → a ≤ p → p + sum_of k ≤ b → p + k.nbytes ≤ length t
-      → piece_at t p ≡ Record k
+  record_same : {k : Key} → piece_at s p ≡ Ok (Record k) → {a b : ℕ} → Agree s t a b → a ≤ p → p + sum_of k ≤ b → p + k.nbytes ≤ length t
+      → piece_at t p ≡ Ok (Record k)
   record_same {k} e h l m r =
       let x = from_record s p e in
       let f = x.header in
@@ -94,7 +96,7 @@ module _ {s t : List ℕ} (p : ℕ) where
       (header_kept p (p + size_at s p) f h l m (p + k.nbytes) (omega (arith, f.fits)) r) x.place).0
 
   -- a gap, of which the first four bytes agree
-  gap_same : {n : ℕ} → piece_at s p ≡ Gap n → {a b : ℕ} → Agree s t a b → a ≤ p → p + 4 ≤ b → p + n ≤ length t → piece_at t p ≡ Gap n
+  gap_same : {n : ℕ} → piece_at s p ≡ Ok (Gap n) → {a b : ℕ} → Agree s t a b → a ≤ p → p + 4 ≤ b → p + n ≤ length t → piece_at t p ≡ Ok (Gap n)
   gap_same {n} e h l m r =
       let g = from_gap s p e in
       let i = num_same 4 p h l m in
@@ -110,9 +112,9 @@ module _ {s t : List ℕ} (p : ℕ) where
   pub piece_same : 0 < size_of (piece_at s p) → Agree s t p (p + size_of (piece_at s p)) → piece_at t p ≡ piece_at s p
   piece_same l g = go (piece_at s p) refl l g
     where
-      go : (x : Piece) → piece_at s p ≡ x → 0 < size_of x → Agree s t p (p + size_of x) → piece_at t p ≡ piece_at s p
-      go (Record k) e l g =
+      go : (x : Result Piece Fault) → piece_at s p ≡ x → 0 < size_of x → Agree s t p (p + size_of x) → piece_at t p ≡ piece_at s p
+      go (Ok (Record k)) e l g =
           let f = (from_record s p e).header in
           record_same e g (omega arith) (omega (arith, f.fits)) g.right ∙ sym e
-      go (Gap n) e l g = gap_same e g (omega arith) (omega (arith, from_gap s p e)) g.right ∙ sym e
-      go (Refused n q) e l g = absurd (omega arith)
+      go (Ok (Gap n)) e l g = gap_same e g (omega arith) (omega (arith, from_gap s p e)) g.right ∙ sym e
+      go (Err f) e l g = absurd (omega arith)

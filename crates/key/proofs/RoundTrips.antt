@@ -16,7 +16,7 @@ use Rattle.wire.specs.Number.{num_at, signed_of, bits_of}
 use Rattle.wire.specs.Patch.{patch}
 use Rattle.wire.specs.Text.{text_size, text_in, text_of, content_of, text_bytes}
 use Rattle.wire.specs.declared.Answer.{Answer}
-use Rattle.wire.specs.declared.text.Found.TheVariants.{Held}
+use Rattle.std.specs.Prelude.{Some}
 use Rattle.wire.proofs.Checks.{from_picked}
 use Rattle.wire.proofs.Layouts.{width_within, length_values, read_written}
 use Rattle.wire.proofs.Patches.{length_patch, drop_patch}
@@ -24,6 +24,7 @@ use Rattle.wire.proofs.Texts.{size_least, text_there}
 use Rattle.key.specs.Header.{key_layout, fixed_part, most_key_len, width_at, key_from, key_at}
 use Rattle.key.specs.Piece.{sized, piece_at}
 use Rattle.key.specs.declared.header.Names.{Names}
+use Rattle.std.specs.Prelude.{Ok}
 use Rattle.key.specs.declared.piece.Piece.TheVariants.{Record}
 use Rattle.key.proofs.Headers.{Strings, strings, good}
 use Rattle.key.proofs.Names.{all_names}
@@ -124,27 +125,27 @@ module _ (f : Fields) (class name title buf : List ℕ) where
     string_there : (q : ℕ) (t rest : List ℕ) (n : ℕ) → text_size (length t) ≤ most_key_len
         → q + text_size (length t) + n ≡ f.seekkey + sum_bytes f.version class name title
         → drop q out ≡ text_bytes t ++ rest
-        → (Held (text_of q (length t)) ≡ text_in out q end) × (content_of out (text_of q (length t)) ≡ t)
+        → (Some (text_of q (length t)) ≡ text_in out q end) × (content_of out (text_of q (length t)) ≡ t)
         × (drop (q + text_size (length t)) out ≡ rest)
     string_there q t rest n s l e =
         let r = room_there in
         text_there out q end t rest (omega (arith, size_least (length t), s)) (omega arith) r.1 e
 
-    class_there : (Held (text_of at (length class)) ≡ text_in out at end) × (content_of out (text_of at (length class)) ≡ class)
+    class_there : (Some (text_of at (length class)) ≡ text_in out at end) × (content_of out (text_of at (length class)) ≡ class)
         × (drop (at + text_size (length class)) out ≡ text_bytes name ++ (text_bytes title ++ after))
     class_there = string_there at class _ (text_size (length name) + text_size (length title)) (omega (arith, h.sum)) (omega arith) tail
 
     abbrev second : ℕ
     second = at + text_size (length class)
 
-    name_there : (Held (text_of second (length name)) ≡ text_in out second end) × (content_of out (text_of second (length name)) ≡ name)
+    name_there : (Some (text_of second (length name)) ≡ text_in out second end) × (content_of out (text_of second (length name)) ≡ name)
         × (drop (second + text_size (length name)) out ≡ text_bytes title ++ after)
     name_there = string_there second name _ (text_size (length title)) (omega (arith, h.sum)) (omega arith) class_there.2
 
     abbrev third : ℕ
     third = second + text_size (length name)
 
-    title_there : (Held (text_of third (length title)) ≡ text_in out third end) × (content_of out (text_of third (length title)) ≡ title)
+    title_there : (Some (text_of third (length title)) ≡ text_in out third end) × (content_of out (text_of third (length title)) ≡ title)
         × (drop (third + text_size (length title)) out ≡ after)
     title_there = string_there third title after 0 (omega (arith, h.sum)) (omega arith) name_there.2
 
@@ -184,7 +185,7 @@ module _ (f : Fields) (class name title buf : List ℕ) where
         let l = key_limits f class name title h.key in
         omega (arith, size_plus out f.seekkey (omega arith), out_long, h.room, l)
 
-    read_there : piece_at out f.seekkey ≡ Record (key_of f class name title)
+    read_there : piece_at out f.seekkey ≡ Ok (Record (key_of f class name title))
     unfolding key_of text_of
     read_there =
         sym (record_there_law out f.seekkey (record { is = sym first; low = omega (arith, h.key); fits = sized_there })

@@ -16,7 +16,8 @@ use Rattle.key.specs.Piece.{piece_at}
 use Rattle.key.specs.Short.{after_short, short_sum, Short}
 use Rattle.key.specs.declared.header.Key.{Key}
 use Rattle.key.specs.declared.header.Names.{Names}
-use Rattle.key.specs.declared.header.Header.TheVariants.{Good}
+use Rattle.std.specs.Prelude.{Some}
+use Rattle.std.specs.Prelude.{Ok}
 use Rattle.key.specs.declared.piece.Piece.TheVariants.{Record}
 use Rattle.key.proofs.Headers.{Placed, placed, strings, good}
 use Rattle.key.proofs.Names.{all_names}
@@ -59,7 +60,7 @@ module _ (s : List ℕ) (p : ℕ) where
 -- what is read of such a header
 module _ (s : List ℕ) (p end : ℕ) where
   pub record Shortly (k : Key) : Type 0 where
-    pub good : Good k ≡ header_in s p end
+    pub good : Some k ≡ header_in s p end
     pub placed : Placed (width_at s p) s p k
     pub sum : sum_of k ≡ short_sum s p
 
@@ -97,7 +98,7 @@ sums_to s p {v} {f} {a} {b} {d} i j k l m =
 
 -- a record whose header is such a one
 pub short_record : (s : List ℕ) (p : ℕ) → Short s p → p + num_at 4 s p ≤ length s → num_at (width_at s p) s (p + 18) ≡ p
-    → (piece_at s p ≡ Record (short_key s p)) × ((short_key s p).nbytes ≡ num_at 4 s p)
+    → (piece_at s p ≡ Ok (Record (short_key s p))) × ((short_key s p).nbytes ≡ num_at 4 s p)
 short_record s p h l e =
     let r = shortly s p (p + num_at 4 s p) h (omega (arith, h.fits)) l in
     let z = size_plus s p (omega (arith, h.fits)) in
@@ -111,7 +112,7 @@ of_limits s p a b d e f g h = record { few = omega arith; fits = rw (sym a, sym 
 
 pub certain : (s : List ℕ) (p : ℕ) {n v o l m q : ℕ} → n ≡ num_at 4 s p → v ≡ num_at 2 s (p + 4) → o ≡ num_at 4 s (p + 6)
     → l ≡ num_at 2 s (p + 14) → m ≡ short_sum s p → l ≤ 280 → All (limits n v o l m) → p + n ≤ length s
-    → q ≡ num_at (offset_width v) s (p + 18) → q ≡ p → (k : Key) × (piece_at s p ≡ Record k) × (k.nbytes ≡ num_at 4 s p)
+    → q ≡ num_at (offset_width v) s (p + 18) → q ≡ p → (k : Key) × (piece_at s p ≡ Ok (Record k)) × (k.nbytes ≡ num_at 4 s p)
 certain s p {n} {v} {o} {l} {m} {q} a b d e f g h i j x =
     let r =
     short_record s p (of_limits s p a b d e f g h) (omega arith) (sym (j ∙ ap (λ (v : ℕ). num_at (offset_width v) s (p + 18)) b) ∙ x) in

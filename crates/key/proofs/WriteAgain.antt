@@ -20,6 +20,8 @@ use Rattle.key.specs.Header.{key_layout, fixed_part, width_at, key_at, sum_of}
 use Rattle.key.specs.Piece.{size_at, piece_at, answer_of, piece_answer}
 use Rattle.key.specs.declared.header.Key.{Key}
 use Rattle.key.specs.declared.header.Names.{Names}
+use Rattle.std.specs.Prelude.{Result, Ok}
+use Rattle.wire.specs.declared.fault.Fault.{Fault}
 use Rattle.key.specs.declared.piece.Piece.{Piece}
 use Rattle.key.specs.declared.piece.Piece.TheVariants.{Record}
 use Rattle.key.proofs.Headers.{Strings, names_of}
@@ -119,7 +121,7 @@ module _ (s : List ℕ) (p : ℕ) (b : Bytes s) (n : Names) (h : Recorded s p (k
 
 -- every plain piece that is read and written again gives the same KeyLen bytes: in any buffer that holds the record, the writer
 -- succeeds, and puts there the KeyLen bytes that stand at p in the file
-write_again : (s : List ℕ) (p : ℕ) (k : Key) (buf : List ℕ) → Bytes s → piece_at s p ≡ Record k → k.keylen ≡ sum_of k
+write_again : (s : List ℕ) (p : ℕ) (k : Key) (buf : List ℕ) → Bytes s → piece_at s p ≡ Ok (Record k) → k.keylen ≡ sum_of k
     → p + k.nbytes ≤ length buf → WrittenAgain s p k buf
 write_again s p k buf b e plain l =
     let r = from_record s p e in
@@ -127,7 +129,7 @@ write_again s p k buf b e plain l =
     rw i (again s p b (names_of k) (rw i at r) (rw i at plain) buf (rw i at l))
 
 -- so a piece that was read keeps the reader's promise
-pub reads : {s : List ℕ} {p : ℕ} {r : Piece} → (r ≡ piece_at s p) × (answer_of r ≡ piece_answer s p) → Reads s p r
+pub reads : {s : List ℕ} {p : ℕ} {r : (Result Piece Fault)} → (r ≡ piece_at s p) × (answer_of r ≡ piece_answer s p) → Reads s p r
 reads {s} {p} h = record {
   piece = h.0;
   answer = h.1;

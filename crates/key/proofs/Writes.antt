@@ -16,7 +16,7 @@ use Rattle.wire.specs.Number.{bits_of, bits16}
 use Rattle.wire.specs.Patch.{patch}
 use Rattle.wire.specs.Text.{text_size, text_of}
 use Rattle.wire.specs.declared.Answer.{Answer}
-use Rattle.wire.specs.declared.number.Bits.TheVariants as bits
+use Rattle.std.specs.Prelude.{Some, None}
 use Rattle.wire.proofs.Checks.{yes_all, not_all}
 use Rattle.wire.proofs.Layouts.{length_values}
 use Rattle.wire.proofs.Texts.{length_text}
@@ -35,20 +35,20 @@ length_header f a b c =
     ∙ omega (arith, length_values (key_layout (offset_width f.version)) (numbers_of f (sum_bytes f.version a b c)), length_names a b c)
 
 -- a signed number's bits, held or not
-pub from_wide : {y z : ℤ} → y ≡ z → bits.Wide ≡ bits16 y → mag z < 32768 → ⊥
+pub from_wide : {y z : ℤ} → y ≡ z → None ≡ bits16 y → mag z < 32768 → ⊥
 unfolding bits16
 from_wide {y} {z} i e h =
-    let f : bits.Wide ≡ bits16 z = rw (← i) e in
+    let f : None ≡ bits16 z = rw (← i) e in
     let g = rw (lt-ltb (mag z) 32768 h) at f in
     let o : ◌≡◌ {A = ℕ} 0 1 = cc in
     omega arith
 
-held_bits_law : (z : ℤ) (n : ℕ) (b : Bool) → ltb (mag z) 32768 ≡ b → bits.Held n ≡ pick b (bits.Held (bits_of 2 z)) bits.Wide
+held_bits_law : (z : ℤ) (n : ℕ) (b : Bool) → ltb (mag z) 32768 ≡ b → Some n ≡ pick b (Some (bits_of 2 z)) None
     → (n ≡ bits_of 2 z) × (mag z < 32768)
 held_bits_law z n true e h = (cc, ltb-true (mag z) 32768 e)
 held_bits_law z n false e h = let y : ◌≡◌ {A = ℕ} 0 1 = cc in absurd (omega arith)
 
-pub from_bits : {y z : ℤ} {n : ℕ} → y ≡ z → bits.Held n ≡ bits16 y → (n ≡ bits_of 2 z) × (mag z < 32768)
+pub from_bits : {y z : ℤ} {n : ℕ} → y ≡ z → Some n ≡ bits16 y → (n ≡ bits_of 2 z) × (mag z < 32768)
 unfolding bits16
 from_bits {y} {z} {n} i e = held_bits_law z n _ refl (rw (← i) e)
 

@@ -6,11 +6,8 @@ use Rattle.wire.specs.Layout.{offset_width, version_fits, extent, values_at}
 use Rattle.wire.specs.Number.{num_at, lesser, signed_of}
 use Rattle.wire.specs.Text.{text_in, on_text, text_size}
 use Rattle.key.specs.declared.header.Names.{Names}
-use Rattle.key.specs.declared.header.Named.{Named}
-use Rattle.key.specs.declared.header.Named.TheVariants.{Held, Cut}
+use Rattle.std.specs.Prelude.{Option, Some, None}
 use Rattle.key.specs.declared.header.Key.{Key}
-use Rattle.key.specs.declared.header.Header.{Header}
-use Rattle.key.specs.declared.header.Header.TheVariants.{Good, Bad}
 
 -- the numbers of a header, over the width of an offset: Nbytes, Version, ObjLen, Datime, KeyLen, Cycle, SeekKey, SeekPdir
 abbrev pub key_layout : ℕ → List ℕ
@@ -21,11 +18,11 @@ abbrev pub fixed_part : ℕ → ℕ
 fixed_part w = extent (key_layout w)
 
 -- class, name and title, one after the other from p on, read within the bytes before end
-unfoldable pub names_in : List ℕ → ℕ → ℕ → Named
+unfoldable pub names_in : List ℕ → ℕ → ℕ → Option Names
 names_in s p end =
-    on_text Cut (λ class.
-    on_text Cut (λ name.
-    on_text Cut (λ title. Held (record { class = class; name = name; title = title })) (text_in s name.next end))
+    on_text None (λ class.
+    on_text None (λ name.
+    on_text None (λ title. Some (record { class = class; name = name; title = title })) (text_in s name.next end))
     (text_in s class.next end))
     (text_in s p end)
 
@@ -93,10 +90,10 @@ abbrev pub unpacked_data : Key → List Check
 unpacked_data k = eq (k.objlen + k.keylen) k.nbytes ∷ []
 
 -- the header of a key whose strings were read, and it is well formed
-abbrev pub header_of : (Names → Key) → Named → Header
-header_of k (Held t) = pick (all (well_formed (k t))) (Good (k t)) Bad
-header_of k Cut = Bad
+abbrev pub header_of : (Names → Key) → Option Names → Option Key
+header_of k (Some t) = pick (all (well_formed (k t))) (Some (k t)) None
+header_of k None = None
 
 -- the header at p, read within the bytes before end: its strings end there, and so all that is read lies there
-unfoldable pub header_in : List ℕ → ℕ → ℕ → Header
+unfoldable pub header_in : List ℕ → ℕ → ℕ → Option Key
 header_in s p end = header_of (key_at s p) (names_in s (p + fixed_part (width_at s p)) end)

@@ -5,6 +5,7 @@ use Rattle.wire.specs.Number.{num_at}
 use Rattle.key.specs.Header.{fixed_part, width_at, limits}
 use Rattle.key.specs.Piece.{piece_at}
 use Rattle.key.specs.declared.header.Key.{Key}
+use Rattle.std.specs.Prelude.{Ok}
 use Rattle.key.specs.declared.piece.Piece.TheVariants.{Record}
 
 -- the place after the string at p + k, counted from p, were its length one byte
@@ -25,4 +26,4 @@ pub record Short (s : List ℕ) (p : ℕ) : Type 0 where
 
 -- a yes is certain: a record of the size that stands there
 abbrev pub Certain : List ℕ → ℕ → Bool → Type 0
-Certain s p r = r ≡ true → (k : Key) × (piece_at s p ≡ Record k) × (k.nbytes ≡ num_at 4 s p)
+Certain s p r = r ≡ true → (k : Key) × (piece_at s p ≡ Ok (Record k)) × (k.nbytes ≡ num_at 4 s p)

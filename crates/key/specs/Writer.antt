@@ -13,6 +13,8 @@ use Rattle.key.specs.Header.{key_layout, fixed_part, sum_for, most_key_len, well
 use Rattle.key.specs.Piece.{piece_at, answer_of, piece_answer}
 use Rattle.key.specs.declared.header.Key.{Key}
 use Rattle.key.specs.declared.header.Fields.{Fields}
+use Rattle.std.specs.Prelude.{Result, Ok}
+use Rattle.wire.specs.declared.fault.Fault.{Fault}
 use Rattle.key.specs.declared.piece.Piece.{Piece}
 use Rattle.key.specs.declared.piece.Piece.TheVariants.{Record}
 
@@ -88,7 +90,7 @@ write_buffer f class name title buf =
 
 -- "every written header reads back with the same fields": the reader at SeekKey finds in w the record with these fields and strings
 pub record ReadBack (f : Fields) (class name title w : List ℕ) : Type 0 where
-  pub key : piece_at w f.seekkey ≡ Record (key_of f class name title)
+  pub key : piece_at w f.seekkey ≡ Ok (Record (key_of f class name title))
   pub class_is : content_of w (key_of f class name title).class ≡ class
   pub name_is : content_of w (key_of f class name title).name ≡ name
   pub title_is : content_of w (key_of f class name title).title ≡ title
@@ -108,8 +110,8 @@ pub record WrittenAgain (s : List ℕ) (p : ℕ) (k : Key) (buf : List ℕ) : Ty
 
 -- what the reader at a place promises: the piece, its number, place and count, and that a plain record can be written again into
 -- every buffer that holds it
-pub record Reads (s : List ℕ) (p : ℕ) (r : Piece) : Type 0 where
+pub record Reads (s : List ℕ) (p : ℕ) (r : Result Piece Fault) : Type 0 where
   pub piece : r ≡ piece_at s p
   pub answer : answer_of r ≡ piece_answer s p
-  pub again : (k : Key) → r ≡ Record k → All (plain k) → Bytes s → (buf : List ℕ) → p + k.nbytes ≤ length buf
+  pub again : (k : Key) → r ≡ Ok (Record k) → All (plain k) → Bytes s → (buf : List ℕ) → p + k.nbytes ≤ length buf
       → WrittenAgain s p k buf

@@ -5,7 +5,7 @@ ghost use Rattle.wire.specs.Number.{num_at};
 ghost use Rattle.key.specs.Header.{fixed_part, bounded_sum, key_at, in_limits, header_in, names_in};
 
 use wire::number::{be_offset, be16, be32, signed16, width};
-use wire::text::{Found, Text, prefix_size, read_text};
+use wire::text::{Text, prefix_size, read_text};
 
 // The greatest KeyLen.
 pub const MOST_KEYLEN: usize = 32767;
@@ -73,12 +73,6 @@ pub struct Fields {
     pub seekpdir: u64,
 }
 
-#[derive(Clone, Copy)]
-pub enum Header {
-    Good(Key),
-    Bad,
-}
-
 // The three strings of a header.
 #[derive(Clone, Copy)]
 pub struct Names {
@@ -87,28 +81,17 @@ pub struct Names {
     pub title: Text,
 }
 
-#[derive(Clone, Copy)]
-pub enum Named {
-    Held(Names),
-    Cut,
-}
-
 // The strings that stand one after the other from a place on, if they end at or before end.
-fn read_names(s: &[u8], at: usize, end: usize) -> Named
+#[tactic(auto, unfolding(crate::specs::Header::names_in, wire::specs::Text::on_text))]
+fn read_names(s: &[u8], at: usize, end: usize) -> Option<Names>
     ensures { result ≡ names_in s.now at end }
 {
-    let Found::Held(class) = read_text(s, at, end) else {
-        return Named::Cut;
-    };
+    let class = read_text(s, at, end)?;
     let name_at = class.next;
-    let Found::Held(name) = read_text(s, name_at, end) else {
-        return Named::Cut;
-    };
+    let name = read_text(s, name_at, end)?;
     let title_at = name.next;
-    let Found::Held(title) = read_text(s, title_at, end) else {
-        return Named::Cut;
-    };
-    Named::Held(Names { class, name, title })
+    let title = read_text(s, title_at, end)?;
+    Some(Names { class, name, title })
 }
 
 // The key at a place, with its Version and strings, which were read.
@@ -163,33 +146,31 @@ pub fn is_formed(nbytes: u32, version: u32, objlen: u32, keylen: u32, sum: usize
     true
 }
 
-// The header at a place, read within the bytes before end: well formed, or bad; bad too where end is past the slice.
-pub fn read_header(s: &[u8], at: usize, end: usize) -> Header
+// The header at a place, read within the bytes before end: if it is well formed; none too where end is past the slice.
+pub fn read_header(s: &[u8], at: usize, end: usize) -> Option<Key>
     ensures { result ≡ header_in s.now at end }
 {
     if s.len() < end {
-        return Header::Bad;
+        return None;
     }
     if end <= at {
-        return Header::Bad;
+        return None;
     }
     // No header is shorter than the narrow numbers and a length byte: its Version is read only where it is there.
     if end - at <= 26 {
-        return Header::Bad;
+        return None;
     }
     let version = be16(s, at + 4);
     let fixed = fixed_part(version);
     if end - at <= fixed {
-        return Header::Bad;
+        return None;
     }
-    let Named::Held(names) = read_names(s, at + fixed, end) else {
-        return Header::Bad;
-    };
+    let names = read_names(s, at + fixed, end)?;
     let title = names.title;
     let next = title.next;
     let k = read_key(s, at, version, names);
     if is_formed(k.nbytes, k.version, k.objlen, k.keylen, next - at) {
-        return Header::Good(k);
+        return Some(k);
     }
-    Header::Bad
+    None
 }

@@ -9,7 +9,7 @@ use wire::number::{be_offset, be8, be16, be32, least};
 // The greatest KeyLen here: no string of such a header can have 255 bytes.
 const MOST_SHORT: u32 = 280;
 
-// The sum of the header at a place, were the length of each string one byte; 0 where it is not there.
+// The sum of the header at a place, were the length of each string one byte; 0, which no header has, where it is not there: one test less for each record.
 fn short_sum(s: &[u8], at: usize, version: u32) -> usize
     requires { (version ≡ num_at 2 s.now (at + 4)) × (at + 34 ≤ length s.now) }
     ensures { SumsTo s.now at result }

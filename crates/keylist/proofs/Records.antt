@@ -12,14 +12,14 @@ use Rattle.wire.proofs.Checks.{false_true, all_yes, picked, not_picked, from_pic
 use Rattle.key.specs.Header.{plain, sum_of, header_in}
 use Rattle.key.specs.Piece.{piece_at}
 use Rattle.key.specs.declared.header.Key.{Key}
-use Rattle.key.specs.declared.header.Header.{Header}
-use Rattle.key.specs.declared.header.Header.TheVariants.{Good, Bad}
+use Rattle.std.specs.Prelude.{Option, Some, None}
+use Rattle.std.specs.Prelude.{Ok}
 use Rattle.key.specs.declared.piece.Piece.TheVariants.{Record}
 use Rattle.key.proofs.Headers.{header_lies}
 use Rattle.key.proofs.Others.{on_record_law, from_on, record_there_law}
 use Rattle.record.specs.Name.{named}
-use Rattle.keylist.specs.Keys.{data_in, free_fits, free_in, info_fits, info_in, list_class, list_fits, list_in, plain_or, copy_in}
-use Rattle.keylist.specs.declared.Data.TheVariants as held
+use Rattle.keylist.specs.Keys.{span, data_in, free_fits, free_in, info_fits, info_in, list_class, list_fits, list_in, plain_or, copy_in}
+use Rattle.keylist.specs.declared.Data.{Data}
 
 -- the class of a keys list
 module _ (s : List ℕ) (t : Text) {b : Bool} (e : b ≡ named s t t_file) where
@@ -34,50 +34,50 @@ module _ (s : List ℕ) (t : Text) {b : Bool} (e : b ≡ named s t t_file) where
 -- the data of a record
 module _ (fits : Key → List Check) (s : List ℕ) (p : ℕ) where
   -- where the record k stands at p
-  module _ {k : Key} (e : piece_at s p ≡ Record k) where
-    pub no_data : (All (fits k) → ⊥) → held.Bad ≡ data_in fits s p
+  module _ {k : Key} (e : piece_at s p ≡ Ok (Record k)) where
+    pub no_data : (All (fits k) → ⊥) → None ≡ data_in fits s p
     unfolding data_in
     no_data h = on_record_law _ _ e (sym (not_picked (fits k) _ _ h))
 
-    pub a_data : All (fits k) → held.Held (p + k.keylen) (p + k.nbytes) ≡ data_in fits s p
+    pub a_data : All (fits k) → Some (span (p + k.keylen) (p + k.nbytes)) ≡ data_in fits s p
     unfolding data_in
     a_data h = on_record_law _ _ e (sym (picked (fits k) _ _ h))
 
   -- and back: it is that of a record that passes
-  pub record Data (a end : ℕ) : Type 0 where
+  pub record Passed (d : Data) : Type 0 where
     pub key : Key
-    pub is : piece_at s p ≡ Record key
+    pub is : piece_at s p ≡ Ok (Record key)
     pub passed : All (fits key)
-    pub first : a ≡ p + key.keylen
-    pub last : end ≡ p + key.nbytes
+    pub first : d.from ≡ p + key.keylen
+    pub last : d.end ≡ p + key.nbytes
 
-  pub from_data : {a end : ℕ} → held.Held a end ≡ data_in fits s p → Data a end
+  pub from_data : {d : Data} → Some d ≡ data_in fits s p → Passed d
   unfolding data_in
-  from_data {a} {end} e =
+  from_data {d} e =
       let r = from_on _ _ (piece_at s p) e (λ i. let z : ◌≡◌ {A = ℕ} 0 1 = cc in omega arith) in
       let k = r.0 in
-      let f = from_picked (fits k) (held.Held (p + k.keylen) (p + k.nbytes)) held.Bad r.2 (λ i. let z : ◌≡◌ {A = ℕ} 0 1 = cc in omega arith) in
+      let f = from_picked (fits k) (Some (span (p + k.keylen) (p + k.nbytes))) None r.2 (λ i. let z : ◌≡◌ {A = ℕ} 0 1 = cc in omega arith) in
       let g = f.0 in
       record { key = k; is = r.1; passed = f.1; first = cc; last = cc }
 
   -- it lies in the file
-  pub data_lies : {a end : ℕ} → held.Held a end ≡ data_in fits s p → (a ≤ end) × (end ≤ length s)
+  pub data_lies : {d : Data} → Some d ≡ data_in fits s p → (d.from ≤ d.end) × (d.end ≤ length s)
   data_lies e = let d = from_data e in let l = record_there_law s p d.is in (omega arith, omega arith)
 
-pub from_free : (s : List ℕ) (p n : ℕ) {a end : ℕ} → held.Held a end ≡ free_in s p n → Data (free_fits s n) s p a end
+pub from_free : (s : List ℕ) (p n : ℕ) {d : Data} → Some d ≡ free_in s p n → Passed (free_fits s n) s p d
 unfolding free_in
 from_free s p n e = from_data (free_fits s n) s p e
 
-pub free_lies : (s : List ℕ) (p n : ℕ) {a end : ℕ} → held.Held a end ≡ free_in s p n → (a ≤ end) × (end ≤ length s)
+pub free_lies : (s : List ℕ) (p n : ℕ) {d : Data} → Some d ≡ free_in s p n → (d.from ≤ d.end) × (d.end ≤ length s)
 unfolding free_in
 free_lies s p n e = data_lies (free_fits s n) s p e
 
-pub list_lies : (s : List ℕ) (p n d : ℕ) {a end : ℕ} → held.Held a end ≡ list_in s p n d → (a ≤ end) × (end ≤ length s)
+pub list_lies : (s : List ℕ) (p n parent : ℕ) {d : Data} → Some d ≡ list_in s p n parent → (d.from ≤ d.end) × (d.end ≤ length s)
 unfolding list_in
-list_lies s p n d e = data_lies (list_fits s n d) s p e
+list_lies s p n parent e = data_lies (list_fits s n parent) s p e
 
 -- the info record is one that passes
-pub from_info : (s : List ℕ) (p n : ℕ) → true ≡ info_in s p n → (k : Key) × (piece_at s p ≡ Record k) × All (info_fits s n k)
+pub from_info : (s : List ℕ) (p n : ℕ) → true ≡ info_in s p n → (k : Key) × (piece_at s p ≡ Ok (Record k)) × All (info_fits s n k)
 unfolding info_in
 from_info s p n e =
     let r = from_on _ _ (piece_at s p) e (λ i. false_true (sym i)) in
@@ -85,34 +85,34 @@ from_info s p n e =
 
 -- a copy
 module _ (s : List ℕ) (p end : ℕ) where
-  pub no_copy : Bad ≡ header_in s p end → Bad ≡ copy_in s p end
+  pub no_copy : None ≡ header_in s p end → None ≡ copy_in s p end
   unfolding copy_in
   no_copy e = ap plain_or e
 
-  module _ {k : Key} (e : Good k ≡ header_in s p end) where
-    pub not_plain : (All (plain k) → ⊥) → Bad ≡ copy_in s p end
+  module _ {k : Key} (e : Some k ≡ header_in s p end) where
+    pub not_plain : (All (plain k) → ⊥) → None ≡ copy_in s p end
     unfolding copy_in
-    not_plain h = sym (not_picked (plain k) (Good k) Bad h) ∙ ap plain_or e
+    not_plain h = sym (not_picked (plain k) (Some k) None h) ∙ ap plain_or e
 
-    pub a_copy : All (plain k) → Good k ≡ copy_in s p end
+    pub a_copy : All (plain k) → Some k ≡ copy_in s p end
     unfolding copy_in
-    a_copy h = sym (picked (plain k) (Good k) Bad h) ∙ ap plain_or e
+    a_copy h = sym (picked (plain k) (Some k) None h) ∙ ap plain_or e
 
   -- and back: it is a header, and plain
-  from_copy_by : (x : Header) {k : Key} → header_in s p end ≡ x → Good k ≡ plain_or x → (Good k ≡ header_in s p end) × (k.keylen ≡ sum_of k)
-  from_copy_by (Good l) {k} i e =
-      let f = from_picked (plain l) (Good l) Bad e (λ i. let z : ◌≡◌ {A = ℕ} 0 1 = cc in omega arith) in
+  from_copy_by : (x : Option Key) {k : Key} → header_in s p end ≡ x → Some k ≡ plain_or x → (Some k ≡ header_in s p end) × (k.keylen ≡ sum_of k)
+  from_copy_by (Some l) {k} i e =
+      let f = from_picked (plain l) (Some l) None e (λ i. let z : ◌≡◌ {A = ℕ} 0 1 = cc in omega arith) in
       let g = f.0 in
       let y : k ≡ l = cc in
       (g ∙ sym i, rw y f.1.0)
-  from_copy_by Bad i e = let z : ◌≡◌ {A = ℕ} 0 1 = cc in absurd (omega arith)
+  from_copy_by None i e = let z : ◌≡◌ {A = ℕ} 0 1 = cc in absurd (omega arith)
 
-  pub from_copy : {k : Key} → Good k ≡ copy_in s p end → (Good k ≡ header_in s p end) × (k.keylen ≡ sum_of k)
+  pub from_copy : {k : Key} → Some k ≡ copy_in s p end → (Some k ≡ header_in s p end) × (k.keylen ≡ sum_of k)
   unfolding copy_in
   from_copy e = from_copy_by (header_in s p end) refl e
 
   -- it lies before the end, and in the file
-  pub copy_lies : {k : Key} → Good k ≡ copy_in s p end → (p + k.keylen ≤ end) × (end ≤ length s)
+  pub copy_lies : {k : Key} → Some k ≡ copy_in s p end → (p + k.keylen ≤ end) × (end ≤ length s)
   copy_lies e =
       let f = from_copy e in
       let g = header_lies s p end f.0 in

@@ -11,8 +11,8 @@ use Rattle.wire.specs.Check.{pick}
 use Rattle.wire.specs.declared.Answer.{Answer}
 use Rattle.fileheader.specs.File.{opened_as}
 use Rattle.fileheader.specs.declared.FileHead.{FileHead}
-use Rattle.fileheader.specs.declared.Opened.{Opened}
-use Rattle.fileheader.specs.declared.Opened.TheVariants.{Good, Refused}
+use Rattle.std.specs.Prelude.{Result, Ok, Err}
+use Rattle.wire.specs.declared.fault.Fault.{Fault}
 use Rattle.rules.specs.Free.{compared}
 use Rattle.rules.specs.Order.{Chain, whole, fault, chain, ruled, Verdict, refused, on_turn, on_chain, on_opened, verdict, starts_of}
 use Rattle.rules.specs.Turn.{Turn, going, stop}
@@ -36,9 +36,9 @@ module _ (s : List ℕ) (room : ℕ) where
       go true e = in_turn qs (leb-true (length qs) room e) (ruled compared s h qs)
       go false e = omega arith
 
-  in_opened : (o : Opened) → length (starts_of (on_opened compared s room o)) ≤ room
-  in_opened (Good h) = in_chain h (chain s (length s) 100)
-  in_opened (Refused c) = omega arith
+  in_opened : (o : Result FileHead Fault) → length (starts_of (on_opened compared s room o)) ≤ room
+  in_opened (Ok h) = in_chain h (chain s (length s) 100)
+  in_opened (Err c) = omega arith
 
   rows_room : length (starts_of (verdict compared s room)) ≤ room
   unfolding verdict

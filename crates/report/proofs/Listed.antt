@@ -3,32 +3,25 @@ use Prim.Native.Nat.{ℕ, zero, suc, ◌+◌, ◌-◌, ◌*◌, ◌<◌, ◌≤�
 use mathlib.Core.Bool.{Bool, true, false}
 use mathlib.Core.List.{List}
 use mathlib.Core.Logic.{⊎_elim}
-use mathlib.Core.Path.{◌≡◌, sym, ap}
+use mathlib.Core.Path.{◌≡◌, refl, sym, ap, ◌∙◌}
 use native.Mathlib.Nat.{eq-or-lt_of_le}
 use native.Mathlib.Numerals.{add-one}
 use native.Mathlib.Omega.{arith}
-use borrow.Author.Tests.{lt-ltb, le-ltb, le-leb, lt-leb, eq-eqb, ne_eqb}
+use borrow.Author.Tests.{lt-ltb, le-ltb, lt-leb}
 use lib.Dec.{leb, eqb}
-use lib.ListN.{length, get_or, length-append}
+use lib.ListN.{length, get_or, take, length-append}
+use lib.Seq.{get_or-take, length-take-le}
 use Rattle.wire.specs.Check.{pick}
 use Rattle.wire.specs.declared.Answer.{Answer}
+use Rattle.wire.proofs.Checks.{below_or}
 use Rattle.wire.proofs.Numbers.{lesser_within}
 use Rattle.report.specs.Put.{Room, Put}
 use Rattle.wire.specs.Number.{lesser}
 use Rattle.report.specs.Report.{next_place, line, row, lines, rows_of}
-use Rattle.report.proofs.Puts.{put_nothing, put_then, put_as}
+use Rattle.report.proofs.Puts.{put_nothing, put_then}
 use Rattle.report.proofs.Words.{line_short}
 
 module _ (a : Answer) (start part owner : List ℕ) where
-  pub no_rows : (a.number ≡ 0 → ⊥) → 0 ≡ rows_of a start part owner
-  unfolding rows_of
-  no_rows h = rw (ne_eqb a.number 0 h)
-
-  pub some_rows : {k l m : ℕ} → a.number ≡ 0 → k ≡ lesser (length part) (length owner) → l ≡ lesser (length start) k → m ≡ lesser a.count l
-      → m ≡ rows_of a start part owner
-  unfolding rows_of
-  some_rows e f g h = rw (eq-eqb a.number 0 e, ← f, ← g) h
-
   -- every row listed is in every table
   pub rows_within : {n : ℕ} → n ≡ rows_of a start part owner → (n ≤ length start) × (n ≤ length part) × (n ≤ length owner)
   unfolding rows_of
@@ -54,15 +47,26 @@ module _ (start : List ℕ) (n end i : ℕ) where
   unfolding next_place
   ends_last l = rw (le-ltb (i + 1) n l)
 
--- the lines of the first i rows are written
-pub record Listing (start part owner : List ℕ) (n end : ℕ) (b : List ℕ) (first : ℕ) (w : List ℕ) (at i : ℕ) : Type 0 where
-  pub within : i ≤ n
-  pub put : Put b first (lines start part owner n end i) w at
+-- tables that are cut to the rows listed show the same
+module _ (start part owner : List ℕ) (n end : ℕ) where
+  cut_place : (i : ℕ) → next_place (take n start) n end i ≡ next_place start n end i
+  cut_place i =
+      ⊎_elim (λ (l : i + 1 < n). sym (ends_next (take n start) n end i l) ∙ get_or-take n start (i + 1) 0 l ∙ ends_next start n end i l)
+      (λ (l : n ≤ i + 1). sym (ends_last (take n start) n end i l) ∙ ends_last start n end i l)
+      (below_or (i + 1) n)
 
--- the lines of the first i rows leave so much of a room
-pub record Fitting (start part owner : List ℕ) (n end first room left i : ℕ) : Type 0 where
-  pub within : i ≤ n
-  pub sum : first + length (lines start part owner n end i) + left ≡ room
+  cut_row : (i : ℕ) → i < n → row (take n start) (take n part) (take n owner) n end i ≡ row start part owner n end i
+  unfolding row
+  cut_row i l = rw (cut_place i, get_or-take n start i 0 l, get_or-take n part i 0 l, get_or-take n owner i 0 l) refl
+
+  cut_lines : (k : ℕ) → k ≤ n → lines (take n start) (take n part) (take n owner) n end k ≡ lines start part owner n end k
+  unfolding lines
+  cut_lines zero l = refl
+  cut_lines (suc k) l = rw (cut_lines k (omega arith), cut_row k (omega arith)) refl
+
+  pub cut_rows : n ≤ length start → {m : ℕ} → n ≡ m
+      → lines (take n start) (take n part) (take n owner) (length (take n start)) end (length (take n start)) ≡ lines start part owner m end m
+  cut_rows l e = rw (length-take-le n start l) (cut_lines n (omega arith) ∙ ap (λ (m : ℕ). lines start part owner m end m) e)
 
 module _ (start part owner : List ℕ) (n end : ℕ) where
   -- a row's line from its numbers
@@ -96,37 +100,28 @@ module _ (start part owner : List ℕ) (n end : ℕ) where
   row_within : (i : ℕ) → i < n → length (lines start part owner n end i) + length (row start part owner n end i) ≤ length (lines start part owner n end n)
   row_within i l = let s = longer (suc i) n (omega arith) in rw (more_length i) at s
 
-  pub list_began : {b : List ℕ} {first : ℕ} → Room b first (lines start part owner n end n) → Listing start part owner n end b first b first 0
+  -- the lines are written one after another
+  pub list_began : {b : List ℕ} {first : ℕ} → Room b first (lines start part owner n end n) → Put b first (lines start part owner n end 0) b first
   unfolding lines
-  list_began {b} {first} h = record { within = omega arith; put = put_nothing b first (omega (arith, h.fits)) }
+  list_began {b} {first} h = put_nothing b first (omega (arith, h.fits))
 
-  pub fit_began : {first room : ℕ} → first ≤ room → Fitting start part owner n end first room (room - first) 0
+  module _ (i : ℕ) {b w : List ℕ} {first at : ℕ} (h : Put b first (lines start part owner n end i) w at) where
+    pub row_room : i < n → Room b first (lines start part owner n end n) → Room w at (row start part owner n end i)
+    row_room l r = let k = row_within i l in record { fits = omega (arith, k, r.fits, h.next, h.same) }
+
+    pub list_turn : {v : List ℕ} {r : ℕ} → Put w at (row start part owner n end i) v r → Put b first (lines start part owner n end (i + 1)) v r
+    unfolding lines
+    list_turn p = rw (add-one i) (put_then h p)
+
+  -- what the lines of the first i rows leave of a room
+  pub fit_began : {first room left : ℕ} → first ≤ room → left ≡ room - first → first + length (lines start part owner n end 0) + left ≡ room
   unfolding lines
-  fit_began l = record { within = omega arith; sum = omega arith }
+  fit_began l e = omega arith
 
-  pub fit_none : {first room : ℕ} → room < first → false ≡ leb (first + length (lines start part owner n end n)) room
-  fit_none {first} {room} l = sym (lt-leb _ room (omega arith))
+  module _ (i first room left size : ℕ) (h : first + length (lines start part owner n end i) + left ≡ room)
+      (e : size ≡ length (row start part owner n end i)) where
+    pub fit_turn : size ≤ left → first + length (lines start part owner n end (i + 1)) + (left - size) ≡ room
+    fit_turn k = rw (add-one i, more_length i) (omega arith)
 
-module _ {start part owner : List ℕ} {n end : ℕ} {b : List ℕ} {first : ℕ} {w : List ℕ} {at i : ℕ} (h : Listing start part owner n end b first w at i) where
-  pub row_room : i < n → Room b first (lines start part owner n end n) → Room w at (row start part owner n end i)
-  row_room l r = let k = row_within start part owner n end i l in record { fits = omega (arith, k, r.fits, h.put.next, h.put.same) }
-
-  pub list_turn : {v : List ℕ} {r : ℕ} → i < n → Put w at (row start part owner n end i) v r → Listing start part owner n end b first v r (i + 1)
-  unfolding lines
-  list_turn l p = record { within = omega arith; put = rw (add-one i) (put_then h.put p) }
-
-  pub list_ended : n ≤ i → Put b first (lines start part owner n end n) w at
-  list_ended l = let e : n ≡ i = omega (arith, h.within) in put_as (ap (λ (k : ℕ). lines start part owner n end k) e) h.put
-
-module _ {start part owner : List ℕ} {n end first room left i : ℕ} (h : Fitting start part owner n end first room left i) where
-  pub fit_turn : {s : ℕ} → i < n → s ≡ length (row start part owner n end i) → s ≤ left → Fitting start part owner n end first room (left - s) (i + 1)
-  fit_turn l e k = record { within = omega arith; sum = rw (add-one i, more_length start part owner n end i) (omega (arith, h.sum)) }
-
-  pub fit_failed : {s : ℕ} → i < n → s ≡ length (row start part owner n end i) → left < s
-      → false ≡ leb (first + length (lines start part owner n end n)) room
-  fit_failed l e k = sym (lt-leb _ room (omega (arith, h.sum, row_within start part owner n end i l)))
-
-  pub fit_ended : n ≤ i → true ≡ leb (first + length (lines start part owner n end n)) room
-  fit_ended l =
-      let e : n ≡ i = omega (arith, h.within) in
-      sym (le-leb _ room (omega (arith, h.sum, ap (λ (k : ℕ). length (lines start part owner n end k)) e)))
+    pub fit_failed : i < n → left < size → false ≡ leb (first + length (lines start part owner n end n)) room
+    fit_failed l k = sym (lt-leb _ room (omega (arith, row_within i l)))

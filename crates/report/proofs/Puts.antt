@@ -1,12 +1,11 @@
 -- Laws of `Put`: one text after another.
-use Prim.Native.Nat.{ℕ, ◌+◌, ◌<◌, ◌≤◌}
+use Prim.Native.Nat.{ℕ, ◌+◌, ◌-◌, ◌<◌, ◌≤◌}
 use mathlib.Core.List.{List, [], ◌∷◌, ◌++◌}
-use mathlib.Core.Path.{◌≡◌, sym, ap, ◌∙◌}
-use native.Mathlib.Nat.{add-zero, add_assoc}
-use native.Mathlib.Numerals.{add-one}
+use mathlib.Core.Path.{◌≡◌, refl, sym, ap, ◌∙◌}
 use native.Mathlib.Omega.{arith}
-use lib.ListN.{length, take, set, get_or, length-append}
-use lib.Seq.{take_all, take-suc}
+use lib.ListN.{length, set, length-append}
+use lib.Seq.{drop-drop}
+use borrow.Rule.Slice.PartMut.{put_mid}
 use Rattle.wire.specs.Patch.{patch}
 use Rattle.wire.proofs.Patches.{patch_nil, patch_set, patch_then, length_patch}
 use Rattle.report.specs.Put.{Room, Put}
@@ -43,20 +42,9 @@ room_as e l = rw (← e) l
 pub put_as : {b x y w : List ℕ} {at r : ℕ} → x ≡ y → Put b at y w r → Put b at x w r
 put_as e p = rw e p
 
--- the first i bytes of t are written
-pub record Copying (b : List ℕ) (at : ℕ) (t w : List ℕ) (i : ℕ) : Type 0 where
-  pub within : i ≤ length t
-  pub put : Put b at (take i t) w (at + i)
-
-pub copy_began : {b : List ℕ} {at : ℕ} {t : List ℕ} → Room b at t → Copying b at t b 0
-copy_began {b} {at} {t} l = record { within = omega arith; put = rw add-zero (put_nothing b at (omega (arith, l.fits))) }
-
-module _ {b : List ℕ} {at : ℕ} {t w : List ℕ} {i : ℕ} (h : Copying b at t w i) where
-  pub copy_turn_law : i < length t → Room b at t → Copying b at t (set w (at + i) (get_or t i 0)) (i + 1)
-  copy_turn_law l k = record {
-    within = omega arith;
-    put = rw (← (add_assoc at i 1), add-one i, take-suc t i 0 l) (put_byte h.put (get_or t i 0) (omega (arith, k.fits)));
-  }
-
-  pub copy_ended : length t ≤ i → Put b at t w (at + i)
-  copy_ended l = rw (take_all i t l) at h.put
+-- a part of the buffer that was lent, of the text's length, came back with the text
+pub put_part : (b : List ℕ) (at : ℕ) (x : List ℕ) {y : List ℕ} → Room b at x → y ≡ x → Put b at x (put_mid at (at + length x - at) b y) (at + length x)
+unfolding patch
+put_part b at x l e =
+    let k : at + length x - at ≡ length x = omega arith in
+    puts b at x (rw (e, k, drop-drop)) refl l.fits

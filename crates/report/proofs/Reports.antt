@@ -12,23 +12,23 @@ use Rattle.wire.specs.Check.{pick}
 use Rattle.wire.specs.Patch.{patch}
 use Rattle.wire.specs.declared.Answer.{Answer}
 use Rattle.wire.proofs.Patches.{length_patch}
-use Rattle.report.specs.Put.{Room, Put}
+use Rattle.report.specs.Put.{Put}
 use Rattle.report.specs.Report.{heading, lines, rows_of, report_of, put_answer, put_buffer, Wrote}
 use Rattle.report.proofs.Listed.{lines_short}
 use Rattle.report.proofs.Puts.{put_then}
 use Rattle.report.proofs.Words.{heading_short}
 
 -- a text that does not fit, and one that does
-pub no_room : (text out : List ℕ) {r : Answer} → length out < length text → r ≡ refusal 17 0 → Wrote text out r out
+pub no_room : (text out : List ℕ) → length out < length text → Wrote text out (refusal 17 0) out
 unfolding put_answer put_buffer
-no_room text out l e = let f = lt-leb (length text) (length out) l in (e ∙ rw f, rw f)
+no_room text out l = let f = lt-leb (length text) (length out) l in (rw f refl, rw f refl)
 
-pub in_room : (text out : List ℕ) {w : List ℕ} {r : ℕ} {a : Answer} → Put out 0 text w r → a ≡ done r → Wrote text out a w
+pub in_room : (text out : List ℕ) {w : List ℕ} {r : ℕ} → Put out 0 text w r → Wrote text out (done r) w
 unfolding put_answer put_buffer
-in_room text out {w} {r} {a} p f =
+in_room text out {w} {r} p =
     let e : r ≡ length text = omega (arith, p.next) in
     let l = le-leb (length text) (length out) (omega (arith, p.room)) in
-    (rw (f, l) (ap (λ (k : ℕ). done k) e), rw l p.text)
+    (rw l (ap done e), rw l p.text)
 
 -- the bytes counted stand in the buffer
 pub wrote_within : (text out : List ℕ) {r : Answer} {w : List ℕ} → Wrote text out r w → r.count ≤ length w
@@ -47,24 +47,20 @@ pub wrote_all : (text out : List ℕ) {r : Answer} {w : List ℕ} → Wrote text
 unfolding put_answer
 wrote_all text out h l = h.0 ∙ rw (le-leb (length text) (length out) l)
 
-module _ (a : Answer) (start part owner : List ℕ) (end : ℕ) (out : List ℕ) {n h : ℕ} {t : Bool}
-    (rows : n ≡ rows_of a start part owner) (first : h ≡ length (heading a))
-    (test : t ≡ leb (h + length (lines start part owner n end n)) (length out)) where
-  whole : report_of a start part owner end ≡ heading a ++ lines start part owner n end n
+module _ (a : Answer) (start part owner : List ℕ) (end : ℕ) (out : List ℕ) {h : ℕ} {t : Bool} {rows : List ℕ}
+    (e : rows ≡ lines start part owner (rows_of a start part owner) end (rows_of a start part owner)) (first : h ≡ length (heading a))
+    (test : t ≡ leb (h + length rows) (length out)) where
+  whole : report_of a start part owner end ≡ heading a ++ rows
   unfolding report_of
-  whole = rw (← rows)
+  whole = rw e refl
 
-  pub report_room : t ≡ true → Room out 0 (heading a ++ lines start part owner n end n)
-  report_room e = let l = leb-true (h + length (lines start part owner n end n)) (length out) (sym test ∙ e) in record
-      { fits = rw length-append (omega (arith, first, l)) }
+  pub report_put : {w v : List ℕ} {at r : ℕ} → Put out 0 (heading a) w at → Put w at rows v r
+      → Wrote (report_of a start part owner end) out (done r) v
+  report_put p q = rw whole (in_room _ out (put_then p q))
 
-  pub report_put : {w v : List ℕ} {at r : ℕ} {b : Answer} → Put out 0 (heading a) w at → Put w at (lines start part owner n end n) v r
-      → b ≡ done r → Wrote (report_of a start part owner end) out b v
-  report_put p q e = rw whole (in_room _ out (put_then p q) e)
-
-  pub report_long : {r : Answer} → t ≡ false → r ≡ refusal 17 0 → Wrote (report_of a start part owner end) out r out
-  report_long e g = let l = leb-false (h + length (lines start part owner n end n)) (length out) (sym test ∙ e) in rw whole
-      (no_room _ out (rw length-append (omega (arith, first, l))) g)
+  pub report_long : t ≡ false → Wrote (report_of a start part owner end) out (refusal 17 0) out
+  report_long f = let l = leb-false (h + length rows) (length out) (sym test ∙ f) in rw whole
+      (no_room _ out (rw length-append (omega (arith, first, l))))
 
 -- 72 bytes a line are room enough
 pub report_short : (a : Answer) (start part owner : List ℕ) (end : ℕ)

@@ -2,20 +2,17 @@
 use Prim.Native.Nat.{ℕ, zero, suc, ◌+◌, ◌≤◌}
 use mathlib.Core.Bool.{Bool, true, false}
 use mathlib.Core.List.{List, [], ◌∷◌, ◌++◌}
-use mathlib.Core.Path.{◌≡◌, ap}
+use mathlib.Core.Path.{◌≡◌, refl, ap}
 use native.Mathlib.Omega.{arith}
-use borrow.Author.Tests.{eq-eqb, ne_eqb}
 use lib.Dec.{eqb}
 use lib.ListN.{length, get_or, length-append, get_or-eq_default}
 use Rattle.wire.specs.Check.{pick}
 use Rattle.wire.specs.declared.Answer.{Answer}
+use borrow.Author.Tests.{ne_eqb}
 use Rattle.report.specs.Report.{decimal, spaced, closed, part_names, part_name, passed, unfinished, refused, line, heading}
 use Rattle.report.proofs.Decimals.{length_decimal}
 
--- a part by its number
-pub is_part : (k part : ℕ) → part ≡ k → spaced (part_name part) ≡ spaced (part_name k)
-is_part k part e = ap (λ (p : ℕ). spaced (part_name p)) e
-
+-- a part past the last name
 pub no_part : (part : ℕ) → 8 ≤ part → spaced (part_name part) ≡ spaced (part_name 8)
 unfolding part_name
 no_part part l = ap spaced (get_or-eq_default part_names _ l)
@@ -24,16 +21,16 @@ no_part part l = ap spaced (get_or-eq_default part_names _ l)
 module _ (a : Answer) where
   pub is_passed : a.number ≡ 0 → heading a ≡ spaced passed ++ closed (decimal a.count)
   unfolding heading
-  is_passed e = rw (eq-eqb a.number 0 e)
+  is_passed e = rw e refl
 
   pub is_unfinished : a.number ≡ 7 → heading a ≡ spaced unfinished ++ closed (decimal a.count)
   unfolding heading
-  is_unfinished e = rw (ne_eqb a.number 0 (λ z. omega (arith, z)), eq-eqb a.number 7 e)
+  is_unfinished e = rw e refl
 
   pub is_refused : (a.number ≡ 0 → ⊥) → (a.number ≡ 7 → ⊥)
       → heading a ≡ spaced refused ++ spaced (decimal a.number) ++ closed (decimal a.place)
   unfolding heading
-  is_refused e f = rw (ne_eqb a.number 0 e, ne_eqb a.number 7 f)
+  is_refused m n = rw (ne_eqb a.number 0 m, ne_eqb a.number 7 n) refl
 
 -- no line is longer than 72
 spaced_length : (x : List ℕ) → length (spaced x) ≡ length x + 1

@@ -4,16 +4,14 @@ ghost use Rattle.report.specs.Put.{Room, Put};
 ghost use Rattle.report.specs.Report.{decimal};
 
 // Writes a text at a place: the place after it.
+#[tactic(auto, using(crate::proofs::Puts::put_part))]
 pub(crate) fn put_text(out: &mut [u8], at: usize, text: &[u8]) -> usize
     requires { Room out.old at text.now }
     ensures { Put out.old at text.now out.new result }
 {
-    let mut i: usize = 0;
-    while i < text.len() {
-        out[at + i] = text[i];
-        i += 1;
-    }
-    at + i
+    let end = at + text.len();
+    out[at..end].copy_from_slice(text);
+    end
 }
 
 // Writes a number in decimal.
@@ -22,11 +20,11 @@ fn put_number(out: &mut [u8], at: usize, v: u64) -> usize
     ensures { Put out.old at (decimal v) out.new result }
 {
     if v < 10 {
-        out[at] = 48 + v as u8;
+        out[at] = b'0' + v as u8;
         return at + 1;
     }
     let last = put_number(out, at, v / 10);
-    out[last] = 48 + (v % 10) as u8;
+    out[last] = b'0' + (v % 10) as u8;
     last + 1
 }
 

@@ -1,33 +1,34 @@
 // The text of the list program: an audit's answer and tables in words.
 #![tactic(auto)]
 
-ghost use Rattle.std.specs.Prelude.{◌≡◌, length};
+ghost use Rattle.std.specs.Prelude.{◌≡◌, ◌≤◌, length};
+ghost use Rattle.wire.specs.Fault.{answer_of};
 ghost use Rattle.report.specs.Report.{heading, rows_of, report_of, Wrote};
 
 use field::put_text;
 use line::put_heading;
-use rows::{lines_fit, put_lines};
-use wire::number::least;
-use wire::{Answer, finished, refused};
+use rows::Rows;
+use wire::Answer;
+use wire::fault::{Fault, Reason};
 
 mod field;
 mod line;
 mod rows;
 
 // How many rows are listed.
+#[tactic(auto, unfolding(crate::specs::Report::rows_of))]
 fn count_rows(a: Answer, start: &[u64], part: &[u64], owner: &[u64]) -> usize
-    ensures { result ≡ rows_of a start.now part.now owner.now }
+    ensures rows { result ≡ rows_of a start.now part.now owner.now }
+    ensures within { (result ≤ length start.now) × (result ≤ length part.now) × (result ≤ length owner.now) }
 {
     if a.number != 0 {
         return 0;
     }
-    least(
-        a.count as usize,
-        least(start.len(), least(part.len(), owner.len())),
-    )
+    (a.count as usize).min(start.len().min(part.len().min(owner.len())))
 }
 
 // The length of the first line.
+#[tactic(auto, using(crate::proofs::Words::heading_short))]
 fn heading_length(a: Answer) -> usize
     ensures { result ≡ length (heading a) }
 {
@@ -35,19 +36,21 @@ fn heading_length(a: Answer) -> usize
     put_heading(&mut space, a)
 }
 
-// Writes a text at the front of a buffer, and counts its bytes. 17, and nothing is written, where the buffer cannot
+// Writes a text at the front of a buffer, and counts its bytes. Refused, and nothing is written, where the buffer cannot
 // hold it.
-pub fn write_text(text: &[u8], out: &mut [u8]) -> Answer
-    ensures { Wrote text.now out.old result out.new }
+pub fn write_text(text: &[u8], out: &mut [u8]) -> Result<usize, Fault>
+    ensures { Wrote text.now out.old (answer_of result) out.new }
 {
     if out.len() < text.len() {
-        return refused(17, 0);
+        return Err(Fault {
+            reason: Reason::Room,
+            place: 0,
+        });
     }
-    let n = put_text(out, 0, text);
-    finished(n as u64)
+    Ok(put_text(out, 0, text))
 }
 
-// The same of the report of an audit's answer and tables, for a file of end bytes: 72 bytes a line always hold it.
+// The same of the report of an audit's answer and tables, whatever they say, for a file of end bytes: 72 bytes a line always hold it.
 pub fn write_report(
     a: Answer,
     start: &[u64],
@@ -55,14 +58,22 @@ pub fn write_report(
     owner: &[u64],
     end: usize,
     out: &mut [u8],
-) -> Answer
-    ensures { Wrote (report_of a start.now part.now owner.now end) out.old result out.new }
+) -> Result<usize, Fault>
+    ensures { Wrote (report_of a start.now part.now owner.now end) out.old (answer_of result) out.new }
 {
     let n = count_rows(a, start, part, owner);
-    if lines_fit(start, part, owner, n, end, heading_length(a), out.len()) {
+    let rows = Rows {
+        start: &start[..n],
+        part: &part[..n],
+        owner: &owner[..n],
+        end,
+    };
+    if rows.fit(heading_length(a), out.len()) {
         let at = put_heading(out, a);
-        let stop = put_lines(out, at, start, part, owner, n, end);
-        return finished(stop as u64);
+        return Ok(rows.put(out, at));
     }
-    refused(17, 0)
+    Err(Fault {
+        reason: Reason::Room,
+        place: 0,
+    })
 }

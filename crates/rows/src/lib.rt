@@ -6,41 +6,19 @@ ghost use Rattle.rows.specs.Row.{RowOf};
 
 pub mod lists;
 
-#[derive(Clone, Copy)]
-pub enum Row {
-    At(usize),
-    Nothing,
-}
-
 // The row whose start is the place; where the starts rise, none only if there is none.
-pub fn find_row(start: &[u64], place: usize) -> Row
+pub fn find_row(start: &[u64], place: usize) -> Option<usize>
     ensures { RowOf start.now place result }
 {
-    let mut lo: usize = 0;
-    let mut hi = start.len();
-    while lo < hi {
-        let mid = lo + (hi - lo) / 2;
-        let s = start[mid] as usize;
-        if s == place {
-            return Row::At(mid);
-        }
-        if s < place {
-            lo = mid + 1;
-        } else {
-            hi = mid;
-        }
-    }
-    Row::Nothing
+    start.binary_search(&(place as u64)).ok()
 }
 
 // The same, whichever row is looked at first.
-pub fn seek_row(start: &[u64], place: usize, near: usize) -> Row
+pub fn seek_row(start: &[u64], place: usize, near: usize) -> Option<usize>
     ensures { RowOf start.now place result }
 {
-    if near < start.len() {
-        if start[near] as usize == place {
-            return Row::At(near);
-        }
+    if near < start.len() && start[near] as usize == place {
+        return Some(near);
     }
     find_row(start, place)
 }

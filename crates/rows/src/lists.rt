@@ -7,13 +7,14 @@ ghost use Rattle.rules.specs.Turn.{first_part};
 ghost use Rattle.rows.specs.Gap.{gap_of};
 ghost use Rattle.rows.specs.Row.{Rises};
 
-use crate::{Row, find_row};
+use crate::find_row;
 use fileheader::FileHead;
 use key::piece::{Piece, read_piece};
 use keylist::is_info;
 use wire::number::be32;
 
-// The size of the gap at a place, 0 where no gap stands.
+// The size of the gap at a place, 0 where no gap stands: no gap has that size, and `gap_of` says it.
+#[tactic(auto, using(crate::proofs::Gaps::no_gap))]
 pub fn gap_size(file: &[u8], at: usize) -> usize
     ensures { result ≡ gap_of (piece_at file.now at) }
 {
@@ -21,13 +22,13 @@ pub fn gap_size(file: &[u8], at: usize) -> usize
         return 0;
     }
     match read_piece(file, at) {
-        Piece::Record(_) => 0,
-        Piece::Gap(n) => n as usize,
-        Piece::Refused(_, _) => 0,
+        Ok(Piece::Gap(n)) => n as usize,
+        _ => 0,
     }
 }
 
-// The part of a piece before the first directory is taken; the head, found and not done, has its part plus 8.
+// The part of a piece, by its number in the table that C lends, before the first directory is taken; the head, found and not done, has its part plus 8.
+#[tactic(auto, using(crate::proofs::Gaps::gap_tests), unfolding(rules::specs::Turn::first_part))]
 pub fn part_at(file: &[u8], place: u64, head: FileHead) -> u64
     ensures { result ≡ first_part file.now head place }
 {
@@ -50,13 +51,11 @@ pub fn part_at(file: &[u8], place: u64, head: FileHead) -> u64
 pub fn is_nothing(seek: u64, nbytes: u32) -> bool
     ensures { result ≡ all (nothing seek nbytes) }
 {
-    if seek != 0 {
-        return false;
-    }
-    nbytes == 0
+    seek == 0 && nbytes == 0
 }
 
 // Whether the info rule holds, for starts that rise.
+#[tactic(auto, using(crate::proofs::Parts::row_starts), unfolding(rules::specs::Free::info_holds))]
 pub fn check_info(file: &[u8], start: &[u64], head: FileHead) -> bool
     ensures { Rises start.now → result ≡ info_holds file.now start.now head }
 {
@@ -65,8 +64,5 @@ pub fn check_info(file: &[u8], start: &[u64], head: FileHead) -> bool
     if is_nothing(seek, nbytes) {
         return true;
     }
-    let Row::At(_) = find_row(start, seek as usize) else {
-        return false;
-    };
-    is_info(file, seek as usize, nbytes)
+    find_row(start, seek as usize).is_some() && is_info(file, seek as usize, nbytes)
 }

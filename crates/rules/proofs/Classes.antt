@@ -1,4 +1,5 @@
 -- Head, free list and info are records of their classes, and three different ones.
+use Rattle.std.specs.Prelude.{Some, Ok}
 use Prim.Native.Nat.{ℕ, ◌+◌}
 use mathlib.Core.Bool.{true}
 use mathlib.Core.List.{List, [], ◌∷◌}
@@ -20,7 +21,6 @@ use Rattle.directory.proofs.Headings.{from_head}
 use Rattle.keylist.proofs.Records.{from_free, from_info}
 use Rattle.wire.specs.Name.{t_file, t_list}
 use Rattle.record.specs.Name.{named}
-use Rattle.directory.specs.declared.Dir.TheVariants as dir
 use Rattle.directory.specs.declared.DirHead.{DirHead}
 use Rattle.fileheader.specs.declared.FileHead.{FileHead}
 use Rattle.rules.specs.Free.{Mode, is_gap, Free, info_holds}
@@ -29,7 +29,7 @@ use Rattle.rules.proofs.Frees.{and_both}
 
 -- a record whose class is this name
 abbrev pub Named : List ℕ → ℕ → List ℕ → Type 0
-Named s p name = (k : Key) × (piece_at s p ≡ Record k) × (named s k.class name ≡ true)
+Named s p name = (k : Key) × (piece_at s p ≡ Ok (Record k)) × (named s k.class name ≡ true)
 
 pub no_gap : (s : List ℕ) (p : ℕ) (name : List ℕ) → Named s p name → is_gap (piece_at s p) ≡ true → ⊥
 no_gap s p name n e = false_true (sym (ap is_gap n.1) ∙ e)
@@ -55,7 +55,7 @@ two_records s p a b =
     two_names s a.0.class a.2 (subst (λ (k : Key). named s k.class t_list ≡ true) e b.2)
 
 -- the head
-pub head_file : (s : List ℕ) (n : ℕ) (dh : DirHead) → head_in s n ≡ dir.Held dh → Named s 100 t_file
+pub head_file : (s : List ℕ) (n : ℕ) (dh : DirHead) → head_in s n ≡ Some dh → Named s 100 t_file
 head_file s n dh e = let r = from_head s n (sym e) in (r.0, r.1, r.2.0)
 
 -- the free list

@@ -1,4 +1,5 @@
 -- The third demand: a verdict means what it says.
+use Rattle.std.specs.Prelude.{Option, Some, None, Result, Ok, Err}
 use Prim.Native.Nat.{ℕ, ◌<◌, ◌≤◌}
 use mathlib.Core.Bool.{Bool, true, false}
 use mathlib.Core.List.{List}
@@ -11,11 +12,10 @@ use lib.ListN.{length, replicate}
 use Rattle.wire.specs.Check.{pick}
 use Rattle.directory.specs.Dir.{head_in}
 use Rattle.fileheader.specs.File.{opened_as}
-use Rattle.directory.specs.declared.Dir.{Dir}
-use Rattle.directory.specs.declared.Dir.TheVariants as dir
+use Rattle.wire.specs.Fault.{needed_of, number_of as reason_number}
+use Rattle.directory.specs.declared.DirHead.{DirHead}
+use Rattle.wire.specs.declared.fault.Fault.{Fault}
 use Rattle.fileheader.specs.declared.FileHead.{FileHead}
-use Rattle.fileheader.specs.declared.Opened.{Opened}
-use Rattle.fileheader.specs.declared.Opened.TheVariants as opened
 use Rattle.rules.specs.Demand.{Partitioned, Passes, Unfinished, Demand}
 use Rattle.rules.specs.Free.{Mode, free_holds, info_holds}
 use Rattle.rules.specs.Order.{Chain, whole, fault, chain, on_head, ruled, passed, refused, verdict, number_of}
@@ -38,14 +38,14 @@ module _ (mode : Mode) (s : List ℕ) (h : FileHead) (qs : List ℕ) (p : Partit
   enough : count (first_parts s h qs) ≤ length qs
   enough = omega (arith, count_most (first_parts s h qs), length_map (first_part s h) qs)
 
-  went_by : (x : Dir) (ps os : List ℕ) (c : ℕ) → head_in s h.nbytesname ≡ x → on_head mode s h qs x ≡ going ps os c → Rules s h qs ps os mode
-  went_by (dir.Held dh) ps os c e f =
+  went_by : (x : Option DirHead) (ps os : List ℕ) (c : ℕ) → head_in s h.nbytesname ≡ x → on_head mode s h qs x ≡ going ps os c → Rules s h qs ps os mode
+  went_by (Some dh) ps os c e f =
       let t = rounds s h qs (length qs) (first_parts s h qs) (replicate (length qs) 0) 0 in
       let a = tested (free_holds mode s qs h) (pick (info_holds s qs h) t (stop 10 h.seekinfo)) 9 h.seekfree f in
       let b = tested (info_holds s qs h) t 10 h.seekinfo a.1 in
       let w = rounds_went s h qs p (length qs) (first_parts s h qs) (replicate (length qs) 0) ps os 0 c (begins s h qs p) enough b.1 in
       meets s h qs p ps os w.0 w.1 dh e (free_there mode s qs h a.0) b.0
-  went_by dir.Bad ps os c e f = stopped (sym f)
+  went_by None ps os c e f = stopped (sym f)
 
   pub ruled_went : (ps os : List ℕ) (c : ℕ) → ruled mode s h qs ≡ going ps os c → Rules s h qs ps os mode
   unfolding ruled
@@ -62,25 +62,25 @@ module _ (mode : Mode) (s : List ℕ) (h : FileHead) (qs : List ℕ) (p : Partit
 
 -- the five kinds of verdict
 pub data View (mode : Mode) (s : List ℕ) (room : ℕ) : Type 0 where
-  header : (c : ℕ) → opened_as s ≡ opened.Refused c → verdict mode s room ≡ refused c 0 0 → View mode s room
-  faulty : (h : FileHead) (c p : ℕ) → opened_as s ≡ opened.Good h → chain s (length s) 100 ≡ fault c p → verdict mode s room ≡ refused c p 0 → View mode s room
+  header : (f : Fault) → opened_as s ≡ Err f → verdict mode s room ≡ refused (reason_number f.reason) f.place (needed_of f.reason) → View mode s room
+  faulty : (h : FileHead) (c p : ℕ) → opened_as s ≡ Ok h → chain s (length s) 100 ≡ fault c p → verdict mode s room ≡ refused c p 0 → View mode s room
   longer : (h : FileHead) (qs : List ℕ) → Partitioned s h qs → room < length qs → verdict mode s room ≡ refused 7 0 (length qs) → View mode s room
   stops : (h : FileHead) (qs : List ℕ) (c p : ℕ) → ruled mode s h qs ≡ stop c p → verdict mode s room ≡ refused c p 0 → View mode s room
   goes : (h : FileHead) (qs ps os : List ℕ) (c : ℕ) → Partitioned s h qs → length qs ≤ room → ruled mode s h qs ≡ going ps os c
       → verdict mode s room ≡ passed qs ps os → View mode s room
 
 module _ (mode : Mode) (s : List ℕ) (room : ℕ) where
-  cut_of : (h : FileHead) (qs : List ℕ) → opened_as s ≡ opened.Good h → chain s (length s) 100 ≡ whole qs → Partitioned s h qs
+  cut_of : (h : FileHead) (qs : List ℕ) → opened_as s ≡ Ok h → chain s (length s) 100 ≡ whole qs → Partitioned s h qs
   cut_of h qs e f = (e, whole_partition s (length s) 100 qs f (opened_long s e))
 
-  view_turn : (h : FileHead) (qs : List ℕ) (t : Turn) → opened_as s ≡ opened.Good h → chain s (length s) 100 ≡ whole qs → length qs ≤ room
+  view_turn : (h : FileHead) (qs : List ℕ) (t : Turn) → opened_as s ≡ Ok h → chain s (length s) 100 ≡ whole qs → length qs ≤ room
       → ruled mode s h qs ≡ t → View mode s room
   unfolding verdict
   view_turn h qs (going ps os c) e f l g =
       goes h qs ps os c (cut_of h qs e f) l g (rw (e, f, le-leb (length qs) room l, g))
   view_turn h qs (stop c p) e f l g = stops h qs c p g (rw (e, f, le-leb (length qs) room l, g))
 
-  view_chain : (h : FileHead) (x : Chain) → opened_as s ≡ opened.Good h → chain s (length s) 100 ≡ x → View mode s room
+  view_chain : (h : FileHead) (x : Chain) → opened_as s ≡ Ok h → chain s (length s) 100 ≡ x → View mode s room
   unfolding verdict
   view_chain h (fault c p) e f = faulty h c p e f (rw (e, f))
   view_chain h (whole qs) e f = go (leb (length qs) room) refl
@@ -89,10 +89,10 @@ module _ (mode : Mode) (s : List ℕ) (room : ℕ) where
       go true g = view_turn h qs (ruled mode s h qs) e f (leb-true (length qs) room g) refl
       go false g = longer h qs (cut_of h qs e f) (leb-false (length qs) room g) (rw (e, f, g))
 
-  view_by : (x : Opened) → opened_as s ≡ x → View mode s room
+  view_by : (x : Result FileHead Fault) → opened_as s ≡ x → View mode s room
   unfolding verdict
-  view_by (opened.Good h) e = view_chain h (chain s (length s) 100) e refl
-  view_by (opened.Refused c) e = header c e (rw e)
+  view_by (Ok h) e = view_chain h (chain s (length s) 100) e refl
+  view_by (Err c) e = header c e (rw e)
 
   pub view : View mode s room
   view = view_by (opened_as s) refl
@@ -143,12 +143,12 @@ module _ (mode : Mode) (s : List ℕ) (room : ℕ) where
       let c = u.partition in
       rw (c.0, chain_is u.header u.starts c, lt-leb (length u.starts) room (omega (arith, u.count, u.beyond)), u.count)
 
-  any_by : (other : ℕ) (x : Opened) (y : Chain) → opened_as s ≡ x → chain s (length s) 100 ≡ y
+  any_by : (other : ℕ) (x : Result FileHead Fault) (y : Chain) → opened_as s ≡ x → chain s (length s) 100 ≡ y
       → (number_of (verdict mode s room) ≡ 7 → ⊥) → (number_of (verdict mode s other) ≡ 7 → ⊥) → verdict mode s room ≡ verdict mode s other
   unfolding verdict
-  any_by other (opened.Refused c) y e f a b = rw e
-  any_by other (opened.Good h) (fault c p) e f a b = rw (e, f)
-  any_by other (opened.Good h) (whole qs) e f a b =
+  any_by other (Err c) y e f a b = rw e
+  any_by other (Ok h) (fault c p) e f a b = rw (e, f)
+  any_by other (Ok h) (whole qs) e f a b =
       rw (e, f, fits room (λ g. a (rw (e, f, g))), fits other (λ g. b (rw (e, f, g))))
     where
       fits : (r : ℕ) → (leb (length qs) r ≡ false → ⊥) → leb (length qs) r ≡ true

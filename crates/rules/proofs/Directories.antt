@@ -13,6 +13,8 @@ use Rattle.key.specs.declared.header.Key.{Key}
 use Rattle.directory.specs.Dir.{no_keys}
 use Rattle.directory.specs.declared.DirHead.{DirHead}
 use Rattle.fileheader.specs.declared.FileHead.{FileHead}
+use Rattle.keylist.specs.Keys.{span}
+use Rattle.keylist.specs.declared.Data.{Data}
 use Rattle.rules.specs.Entry.{dir_class}
 use Rattle.rules.specs.Partition.{Partition}
 use Rattle.rules.specs.Row.{starts}
@@ -63,10 +65,9 @@ module _ (s qs : List ℕ) (zero-free : starts qs 0 ≡ true → ⊥) (d : ℕ) 
   -- one filling
   pub same_keys : (dh : DirHead) (ks ls : List Key) → Filled s qs d dh ks → Filled s qs d dh ls → ks ≡ ls
   same_keys dh ks ls f g =
-      let x = f.held in
-      let y = g.held in
-      let a : g.from ≡ f.from = cc in
-      let b : g.end ≡ f.end = cc in
+      let x : span g.from g.end ≡ span f.from f.end = let y = sym g.held ∙ f.held in cc in
+      let a : g.from ≡ f.from = ap (λ (l : Data). l.from) x in
+      let b : g.end ≡ f.end = ap (λ (l : Data). l.end) x in
       one_list s f.end (f.from + 4) ks ls (f.count ∙ sym (g.count ∙ ap (λ (p : ℕ). num_at 4 s p) a)) f.copies
       (subst (λ (e : ℕ). Copies s e (f.from + 4) ls) b (subst (λ (p : ℕ). Copies s g.end (p + 4) ls) a g.copies))
 

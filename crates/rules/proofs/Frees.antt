@@ -1,4 +1,5 @@
 -- The free list rule: the test that the order makes holds exactly where the rule does; and which bytes a gap's segment has.
+use Rattle.std.specs.Prelude.{Option, Some, None, Ok}
 use Prim.Native.Nat.{ℕ, ◌+◌, ◌-◌, ◌≤◌, ◌<◌}
 use mathlib.Core.Bool.{Bool, true, false, ◌&&◌}
 use mathlib.Core.List.{List, [], ◌∷◌, ◌++◌}
@@ -15,7 +16,6 @@ use Rattle.key.specs.declared.piece.Piece.TheVariants.{Gap}
 use Rattle.key.proofs.Pieces.{from_gap}
 use Rattle.keylist.specs.Keys.{free_in}
 use Rattle.keylist.specs.declared.Data.{Data}
-use Rattle.keylist.specs.declared.Data.TheVariants.{Held, Bad}
 use Rattle.fileheader.specs.declared.FileHead.{FileHead}
 use Rattle.rules.specs.Free.{Mode, compared, segments_at, segments_fit, gap_last, gaps, last_fits, Free, list_gaps, held_to, free_data, free_holds}
 use Rattle.rules.specs.Row.{starts}
@@ -28,7 +28,7 @@ abbrev Within : ℕ → ℕ → ℕ → Type 0
 Within q n x = (q ≤ x) × (x < q + n)
 
 -- from first to last the segment of a gap has the bytes of the gap, and no others
-pub gap_bytes_law : (s : List ℕ) (q n x : ℕ) → piece_at s q ≡ Gap n
+pub gap_bytes_law : (s : List ℕ) (q n x : ℕ) → piece_at s q ≡ Ok (Gap n)
     → (Between q (gap_last q n) x → Within q n x) × (Within q n x → Between q (gap_last q n) x)
 gap_bytes_law s q n x e =
     let size = (from_gap s q e).0 in
@@ -88,9 +88,11 @@ module _ (mode : Mode) (s qs : List ℕ) (h : FileHead) where
       )
       (list_gaps_law h.wide (length s) f.segments f.last f.beyond)
 
-  by_data : (x : Data) → free_in s h.seekfree h.nbytesfree ≡ x → (h.seekfree ≡ 100 → ⊥) → starts qs h.seekfree ≡ true
+  by_data : (x : Option Data) → free_in s h.seekfree h.nbytesfree ≡ x → (h.seekfree ≡ 100 → ⊥) → starts qs h.seekfree ≡ true
       → free_data mode h.wide s qs h.nfree x ≡ true → Free mode s qs h
-  by_data (Held a end) e o p t =
+  by_data (Some l) e o p t =
+      let a = l.from in
+      let end = l.end in
       let xs = segments_at s h.nfree a in
       let us = held_to mode (gaps s qs) xs in
       let f = and_both (all (segments_fit h.wide s h.nfree a end)) (list_gaps h.wide (length s) us xs) t in
@@ -108,7 +110,7 @@ module _ (mode : Mode) (s qs : List ℕ) (h : FileHead) where
         beyond = g.2;
         equal = held_gaps mode (gaps s qs) xs;
       }
-  by_data Bad e o p t = false_true t
+  by_data None e o p t = false_true t
 
   pub free_there : free_holds mode s qs h ≡ true → Free mode s qs h
   unfolding free_holds

@@ -1,4 +1,5 @@
 -- An assignment that meets the rules, as a state of the graph.
+use Rattle.std.specs.Prelude.{Some}
 use Prim.Native.Nat.{ℕ, ◌+◌, ◌<◌, ◌≤◌}
 use mathlib.Core.List.{List, [], ◌∷◌}
 use mathlib.Core.Logic.{◌⊎◌, inl, inr, ⊎_elim}
@@ -9,7 +10,6 @@ use Rattle.wire.proofs.Checks.{false_true}
 use Rattle.wire.specs.Check.{All}
 use Rattle.key.specs.declared.header.Key.{Key}
 use Rattle.directory.specs.Dir.{dir_of, no_keys}
-use Rattle.directory.specs.declared.Dir.TheVariants as dir
 use Rattle.directory.specs.declared.DirHead.{DirHead}
 use Rattle.fileheader.specs.declared.FileHead.{FileHead}
 use Rattle.rules.specs.Free.{Mode}
@@ -81,12 +81,12 @@ module _ (s : List ℕ) (h : FileHead) (qs : List ℕ) (p : Partition s 100 (len
   abbrev At : ℕ → DirHead → Type 0
   At d dh = DirectoryAt s h qs gs hs d dh
 
-  stands : (j : ℕ) (dh : DirHead) → j < length qs → Directory (get_or gs j 0) → dir_of s h (get_or qs j 0) (get_or hs j 0) ≡ dir.Held dh
+  stands : (j : ℕ) (dh : DirHead) → j < length qs → Directory (get_or gs j 0) → dir_of s h (get_or qs j 0) (get_or hs j 0) ≡ Some dh
       → At (get_or qs j 0) dh
   stands j dh l d e = record { row = j; within = l; here = refl; is = d; header = e }
 
-  head_of : (d : ℕ) (dh : DirHead) → (a : At d dh) → dir_of s h (get_or qs a.row 0) (get_or hs a.row 0) ≡ dir.Held dh
-  head_of d dh a = subst (λ (x : ℕ). dir_of s h x (get_or hs a.row 0) ≡ dir.Held dh) (sym a.here) a.header
+  head_of : (d : ℕ) (dh : DirHead) → (a : At d dh) → dir_of s h (get_or qs a.row 0) (get_or hs a.row 0) ≡ Some dh
+  head_of d dh a = subst (λ (x : ℕ). dir_of s h x (get_or hs a.row 0) ≡ Some dh) (sym a.here) a.header
 
   keys_of : (d : ℕ) (dh : DirHead) → (a : At d dh) → (ks : List Key) × KeysAre s qs (get_or qs a.row 0) dh ks
   keys_of d dh a =
@@ -150,7 +150,7 @@ module _ (s : List ℕ) (h : FileHead) (qs : List ℕ) (p : Partition s 100 (len
     Kid i m =
         (first_part s h (get_or qs i 0) ≡ 7) × ((final (get_or gs i 0) ≡ final m) × (get_or hs i 0 ≡ get_or qs j 0))
 
-    module _ (dh : DirHead) (ks : List Key) (e : dir_of s h (get_or qs j 0) (get_or hs j 0) ≡ dir.Held dh)
+    module _ (dh : DirHead) (ks : List Key) (e : dir_of s h (get_or qs j 0) (get_or hs j 0) ≡ Some dh)
         (f : Filled s qs (get_or qs j 0) dh ks) where
       list_row : (get_or gs (row_of qs dh.seekkeys) 0 ≡ 4) × (get_or hs (row_of qs dh.seekkeys) 0 ≡ get_or qs j 0)
       list_row =

@@ -1,4 +1,5 @@
 -- Partitions: one at most, none after a refusal, starts that rise, a piece at each; one after another, and of bytes that agree.
+use Rattle.std.specs.Prelude.{Result}
 use Prim.Native.Nat.{ℕ, zero, suc, ◌+◌, ◌≤◌, ◌<◌}
 use mathlib.Core.List.{List, [], ◌∷◌, ◌++◌}
 use mathlib.Core.Path.{◌≡◌, refl, sym, subst}
@@ -7,6 +8,7 @@ use lib.ListN.{length, get_or}
 use Rattle.wire.specs.Agree.{Agree}
 use Rattle.wire.proofs.Agrees.{within}
 use Rattle.key.specs.Piece.{piece_at, size_of}
+use Rattle.wire.specs.declared.fault.Fault.{Fault}
 use Rattle.key.specs.declared.piece.Piece.{Piece}
 use Rattle.key.proofs.Agrees.{piece_same}
 use Rattle.key.proofs.Pieces.{size_fits}
@@ -71,8 +73,8 @@ partition_kept {s} {t} p e (q ∷ qs) x g =
     let i = piece_same p x.1.0 (within p (p + size_of (piece_at s p)) g (omega arith) f) in (
       x.0,
       (
-        subst (λ (z : Piece). 0 < size_of z) (sym i) x.1.0,
-        subst (λ (z : Piece). Partition t (p + size_of z) e qs) (sym i)
+        subst (λ (z : Result Piece Fault). 0 < size_of z) (sym i) x.1.0,
+        subst (λ (z : Result Piece Fault). Partition t (p + size_of z) e qs) (sym i)
             (partition_kept (p + size_of (piece_at s p)) e qs x.1.1 (within (p + size_of (piece_at s p)) e g (omega arith) (omega arith))),
       ),
     )

@@ -1,5 +1,6 @@
 -- A directory's turn over its bytes: it goes through exactly where the rules on its header, its list and its copies hold and every row
 -- that it gives had no part.
+use Rattle.std.specs.Prelude.{Option, Some, None}
 use Prim.Native.Nat.{ℕ, zero, suc, ◌+◌}
 use mathlib.Core.Bool.{Bool, true, false}
 use mathlib.Core.List.{List, [], ◌∷◌, map}
@@ -13,14 +14,10 @@ use Rattle.wire.specs.Check.{all, All, pick}
 use Rattle.wire.specs.Number.{num_at}
 use Rattle.wire.proofs.Checks.{yes_all, not_all, all_or, false_true}
 use Rattle.key.specs.declared.header.Key.{Key}
-use Rattle.key.specs.declared.header.Header.{Header}
-use Rattle.key.specs.declared.header.Header.TheVariants.{Good, Bad}
 use Rattle.directory.specs.Dir.{dir_of, no_keys}
 use Rattle.keylist.specs.Keys.{list_in, copy_in}
+use Rattle.keylist.specs.Keys.{span}
 use Rattle.keylist.specs.declared.Data.{Data}
-use Rattle.keylist.specs.declared.Data.TheVariants as span
-use Rattle.directory.specs.declared.Dir.{Dir}
-use Rattle.directory.specs.declared.Dir.TheVariants as dir
 use Rattle.directory.specs.declared.DirHead.{DirHead}
 use Rattle.fileheader.specs.declared.FileHead.{FileHead}
 use Rattle.rules.specs.Entry.{entry_fits}
@@ -71,16 +68,16 @@ module _ (s qs : List ℕ) where
     -- one copy
     pub record Copied (ps os us vs : List ℕ) (c e : ℕ) : Type 0 where
       pub key : Key
-      pub parsed : copy_in s c end ≡ Good key
+      pub parsed : copy_in s c end ≡ Some key
       pub fits : All (entry_fits s qs d c key)
       pub free : get_or ps (row_of qs key.seekkey) 0 ≡ 7
       pub parts : us ≡ set ps (row_of qs key.seekkey) (listed_mark s key.seekkey)
       pub owners : vs ≡ set os (row_of qs key.seekkey) d
       pub next : e ≡ c + key.keylen
 
-    copied_by : (x : Header) (ps os us vs : List ℕ) (c e : ℕ) → copy_in s c end ≡ x → on_copy s qs d seek c ps os x ≡ going us vs e
+    copied_by : (x : Option Key) (ps os us vs : List ℕ) (c e : ℕ) → copy_in s c end ≡ x → on_copy s qs d seek c ps os x ≡ going us vs e
         → Copied ps os us vs c e
-    copied_by (Good k) ps os us vs c e f h =
+    copied_by (Some k) ps os us vs c e f h =
         let row = row_of qs k.seekkey in
         let mark = listed_mark s k.seekkey in
         let t = tested (all (entry_fits s qs d c k)) (give row mark d (c + k.keylen) c ps os) 13 c h in
@@ -100,13 +97,13 @@ module _ (s qs : List ℕ) where
             ⊎_elim (λ (h : All (entry_fits s qs d c k)). h)
             (λ (h : All (entry_fits s qs d c k) → ⊥). false_true (sym (not_all (entry_fits s qs d c k) h) ∙ e))
             (all_or (entry_fits s qs d c k))
-    copied_by Bad ps os us vs c e f h = stopped (sym h)
+    copied_by None ps os us vs c e f h = stopped (sym h)
 
     one_copied : (ps os us vs : List ℕ) (c e : ℕ) → copy_turn s qs d seek end ps os c ≡ going us vs e → Copied ps os us vs c e
     unfolding copy_turn
     one_copied ps os us vs c e h = copied_by (copy_in s c end) ps os us vs c e refl h
 
-    one_goes : (ps os : List ℕ) (c : ℕ) (k : Key) → copy_in s c end ≡ Good k → All (entry_fits s qs d c k)
+    one_goes : (ps os : List ℕ) (c : ℕ) (k : Key) → copy_in s c end ≡ Some k → All (entry_fits s qs d c k)
         → get_or ps (row_of qs k.seekkey) 0 ≡ 7
         → copy_turn s qs d seek end ps os c
         ≡ going (set ps (row_of qs k.seekkey) (listed_mark s k.seekkey)) (set os (row_of qs k.seekkey) d) (c + k.keylen)
@@ -158,19 +155,21 @@ module _ (s qs : List ℕ) where
     Went = (ks : List Key) × (its : List Item) × Gives d dh ks its × Assign d its ps os us vs
 
     abbrev There : ℕ → ℕ → Type 0
-    There a end = (starts qs dh.seekkeys ≡ true) × (list_in s dh.seekkeys dh.nbyteskeys d ≡ span.Held a end)
+    There a end = (starts qs dh.seekkeys ≡ true) × (list_in s dh.seekkeys dh.nbyteskeys d ≡ Some (span a end))
 
-    held_there : {a end : ℕ} (b : Bool) → starts qs dh.seekkeys ≡ b → keys_in s qs d dh ≡ span.Held a end → There a end
+    held_there : {a end : ℕ} (b : Bool) → starts qs dh.seekkeys ≡ b → keys_in s qs d dh ≡ Some (span a end) → There a end
     unfolding keys_in
     held_there true e f = (e, rw e at f)
     held_there {a} {end} false e f =
-        let x : span.Bad ≡ span.Held a end = rw e at f in
+        let x : None ≡ Some (span a end) = rw e at f in
         let z : ◌≡◌ {A = ℕ} 0 1 = cc in
         absurd (omega arith)
 
-    data_went : (x : Data) (e : ℕ) → keys_in s qs d dh ≡ x → on_data s qs d dh.seekkeys ps os x ≡ going us vs e → Went
+    data_went : (x : Option Data) (e : ℕ) → keys_in s qs d dh ≡ x → on_data s qs d dh.seekkeys ps os x ≡ going us vs e → Went
     unfolding data_turn
-    data_went (span.Held a end) e f h =
+    data_went (Some l) e f h =
+        let a = l.from in
+        let end = l.end in
         let row = row_of qs dh.seekkeys in
         let t = and_then_law (data_turn s qs d dh.seekkeys a end) (give row 4 d (a + 4) d ps os) h in
         let y = gave row 4 d (a + 4) d ps os t.3 in
@@ -208,7 +207,7 @@ module _ (s qs : List ℕ) where
             let a : xs ≡ us = cc in
             let b : ys ≡ vs = cc in
             λ i. going (a i) (b i) (f i)
-    data_went span.Bad e f h = stopped (sym h)
+    data_went None e f h = stopped (sym h)
 
     keys_went : (e : ℕ) → keys_turn s qs d dh ps os ≡ going us vs e → Went
     unfolding keys_turn
@@ -223,7 +222,7 @@ module _ (s qs : List ℕ) where
         (all_or (no_keys dh))
 
     data_goes : (ks : List Key) → (f : Filled s qs d dh ks) → Assign d (item (row_of qs dh.seekkeys) 4 ∷ copied ks) ps os us vs
-        → on_data s qs d dh.seekkeys ps os (span.Held f.from f.end) ≡ going us vs f.end
+        → on_data s qs d dh.seekkeys ps os (Some (span f.from f.end)) ≡ going us vs f.end
     unfolding data_turn
     data_goes ks f a =
         rw (
@@ -250,7 +249,7 @@ module _ (s qs : List ℕ) where
       where
         filled_goes : (f : Filled s qs d dh ks) → Assign d (item (row_of qs dh.seekkeys) 4 ∷ copied ks) ps os us vs
             → pick (all (no_keys dh)) (going ps os 0)
-            (on_data s qs d dh.seekkeys ps os (pick (starts qs dh.seekkeys) (list_in s dh.seekkeys dh.nbyteskeys d) span.Bad))
+            (on_data s qs d dh.seekkeys ps os (pick (starts qs dh.seekkeys) (list_in s dh.seekkeys dh.nbyteskeys d) None))
             ≡ going us vs f.end
         filled_goes f a = rw (some f, f.place, f.held) (data_goes ks f a)
           where
@@ -261,16 +260,16 @@ module _ (s qs : List ℕ) where
   pub record Said (h : FileHead) (j o : ℕ) (its : List Item) : Type 0 where
     pub dirhead : DirHead
     pub keys : List Key
-    pub header : dir_of s h (get_or qs j 0) o ≡ dir.Held dirhead
+    pub header : dir_of s h (get_or qs j 0) o ≡ Some dirhead
     pub items : Gives (get_or qs j 0) dirhead keys its
 
   module _ (h : FileHead) (j : ℕ) (ps os us vs : List ℕ) where
-    dir_by : (x : Dir) (e : ℕ) → dir_of s h (get_or qs j 0) (get_or os j 0) ≡ x → on_dir s qs (get_or qs j 0) ps os x ≡ going us vs e
+    dir_by : (x : Option DirHead) (e : ℕ) → dir_of s h (get_or qs j 0) (get_or os j 0) ≡ x → on_dir s qs (get_or qs j 0) ps os x ≡ going us vs e
         → (its : List Item) × Said h j (get_or os j 0) its × Assign (get_or qs j 0) its ps os us vs
-    dir_by (dir.Held dh) e f g =
+    dir_by (Some dh) e f g =
         let w = keys_went (get_or qs j 0) dh ps os us vs e g in
         (w.1, record { dirhead = dh; keys = w.0; header = f; items = w.2 }, w.3)
-    dir_by dir.Bad e f g = stopped (sym g)
+    dir_by None e f g = stopped (sym g)
 
     pub dir_went : (e : ℕ) → dir_turn s h qs j ps os ≡ going us vs e
         → (its : List Item) × Said h j (get_or os j 0) its × Assign (get_or qs j 0) its ps os us vs

@@ -1,4 +1,5 @@
 -- A state of the graph in which every directory is done meets the rules.
+use Rattle.std.specs.Prelude.{Some}
 use Prim.Native.Nat.{ℕ, ◌+◌, ◌<◌, ◌≤◌}
 use mathlib.Core.Bool.{true}
 use mathlib.Core.List.{List, [], ◌∷◌}
@@ -11,7 +12,6 @@ use Rattle.key.specs.Piece.{piece_at}
 use Rattle.key.specs.declared.header.Key.{Key}
 use Rattle.directory.specs.Dir.{head_in, dir_of, no_keys}
 use Rattle.wire.specs.Name.{t_file, t_list}
-use Rattle.directory.specs.declared.Dir.TheVariants as dir
 use Rattle.directory.specs.declared.DirHead.{DirHead}
 use Rattle.fileheader.specs.declared.FileHead.{FileHead}
 use Rattle.wire.proofs.Checks.{false_true}
@@ -156,7 +156,7 @@ module _ (s : List ℕ) (h : FileHead) (qs : List ℕ) (p : Partition s 100 (len
       within = back.inside;
       here = sym back.owner;
       is = back.part;
-      header = subst (λ (x : ℕ). dir_of s h x (get_or os back.row 0) ≡ dir.Held said.dirhead) (sym back.owner) said.header;
+      header = subst (λ (x : ℕ). dir_of s h x (get_or os back.row 0) ≡ Some said.dirhead) (sym back.owner) said.header;
     }
 
     origin_by : (f : Filled s qs (get_or qs back.row 0) said.dirhead said.keys)
@@ -201,7 +201,7 @@ module _ (s : List ℕ) (h : FileHead) (qs : List ℕ) (p : Partition s 100 (len
     gift_by : (w : Done qs (graph s h qs p) ps os a.row) → Said s qs h a.row (get_or os a.row 0) w.items → Gift d dh
     gift_by w x =
         let y = x.header in
-        let z = subst (λ (n : ℕ). dir_of s h n (get_or os a.row 0) ≡ dir.Held dh) (sym a.here) a.header in
+        let z = subst (λ (n : ℕ). dir_of s h n (get_or os a.row 0) ≡ Some dh) (sym a.here) a.header in
         let e : x.dirhead ≡ dh = cc in
         record {
           keys = x.keys;
@@ -263,7 +263,7 @@ module _ (s : List ℕ) (h : FileHead) (qs : List ℕ) (p : Partition s 100 (len
         k
 
   keys_are : (i : ℕ) → i < length qs → Directory (get_or ps i 0)
-      → (dh : DirHead) × (ks : List Key) × (dir_of s h (get_or qs i 0) (get_or os i 0) ≡ dir.Held dh) × KeysAre s qs (get_or qs i 0) dh ks
+      → (dh : DirHead) × (ks : List Key) × (dir_of s h (get_or qs i 0) (get_or os i 0) ≡ Some dh) × KeysAre s qs (get_or qs i 0) dh ks
   unfolding graph
   keys_are i l d =
       let x = (v.done i l d).says in (
@@ -303,7 +303,7 @@ module _ (s : List ℕ) (h : FileHead) (qs : List ℕ) (p : Partition s 100 (len
       ((o.dirhead, o.keys, o.stands, inr o.filled, x.0), x.1))
       o.how
 
-  module _ {mode : Mode} (dh : DirHead) (hd : head_in s h.nbytesname ≡ dir.Held dh) (fr : Free mode s qs h) (nf : info_holds s qs h ≡ true) where
+  module _ {mode : Mode} (dh : DirHead) (hd : head_in s h.nbytesname ≡ Some dh) (fr : Free mode s qs h) (nf : info_holds s qs h ≡ true) where
     info_there : (i : ℕ) → i < length qs → get_or qs i 0 ≡ h.seekinfo → Named s h.seekinfo t_list
     info_there i l e = info_list s qs h nf (λ z. omega (arith, below_first s h qs p i l))
 

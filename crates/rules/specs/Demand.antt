@@ -1,9 +1,8 @@
 -- What a verdict means: the third demand (docs/DEMANDS.md). `verdict` is the order's answer; what it is held to, `Passes` and
 -- `Unfinished`, is over the header, the partition and the rules alone.
-use Rattle.std.specs.Prelude.{ℕ, ◌≤◌, ◌<◌, List, ◌≡◌, length}
+use Rattle.std.specs.Prelude.{ℕ, ◌≤◌, ◌<◌, List, ◌≡◌, length, Ok}
 use Rattle.fileheader.specs.File.{opened_as}
 use Rattle.fileheader.specs.declared.FileHead.{FileHead}
-use Rattle.fileheader.specs.declared.Opened.TheVariants.{Good}
 use Rattle.rules.specs.Free.{Mode}
 use Rattle.rules.specs.Order.{passed, refused, verdict, number_of}
 use Rattle.rules.specs.Partition.{Partition}
@@ -11,7 +10,7 @@ use Rattle.rules.specs.Rules.{Rules}
 
 -- the header is good and qs is the partition (document 01: cut) from 100 to END: the lines Header and Pieces
 abbrev pub Partitioned : List ℕ → FileHead → List ℕ → Type 0
-Partitioned s h qs = (opened_as s ≡ Good h) × Partition s 100 (length s) qs
+Partitioned s h qs = (opened_as s ≡ Ok h) × Partition s 100 (length s) qs
 
 -- starts, parts and owners of a pass in this room
 pub record Passes (mode : Mode) (s : List ℕ) (room : ℕ) (qs ps os : List ℕ) : Type 0 where

@@ -1,14 +1,15 @@
 -- The free list and the info record: document 01, "Free list" and "Info"; document 02, requests 01, 02 and 10.
-use Rattle.std.specs.Prelude.{ℕ, zero, suc, ◌+◌, ◌-◌, Bool, true, false, ◌&&◌, ◌||◌, List, [], ◌∷◌, ◌++◌, ◌≡◌, ltb, eqb, length, take, drop}
+use Rattle.std.specs.Prelude.{ℕ, zero, suc, ◌+◌, ◌-◌, Bool, true, false, ◌&&◌, ◌||◌, List, [], ◌∷◌, ◌++◌, ◌≡◌, ltb, eqb, length, take, drop, Option, Some, None, Result, Ok, Err}
 use Rattle.wire.specs.Check.{Check, le, eq, all, All, nothing, pick}
 use Rattle.wire.specs.Layout.{offset_width, most_version, extent, values_at}
 use Rattle.wire.specs.Number.{num_at}
 use Rattle.key.specs.Piece.{piece_at, size_of}
+use Rattle.wire.specs.declared.fault.Fault.{Fault}
 use Rattle.key.specs.declared.piece.Piece.{Piece}
-use Rattle.key.specs.declared.piece.Piece.TheVariants.{Record, Gap, Refused}
+use Rattle.key.specs.declared.piece.Piece.TheVariants.{Record, Gap}
 use Rattle.keylist.specs.Keys.{free_in, info_in}
+use Rattle.keylist.specs.Keys.{span}
 use Rattle.keylist.specs.declared.Data.{Data}
-use Rattle.keylist.specs.declared.Data.TheVariants.{Held, Bad}
 use Rattle.fileheader.specs.declared.FileHead.{FileHead}
 use Rattle.rules.specs.Row.{starts}
 
@@ -22,10 +23,10 @@ compared = true
 abbrev pub apart : Mode
 apart = false
 
-abbrev pub is_gap : Piece → Bool
-is_gap (Record k) = false
-is_gap (Gap n) = true
-is_gap (Refused c p) = false
+abbrev pub is_gap : Result Piece Fault → Bool
+is_gap (Ok (Record k)) = false
+is_gap (Ok (Gap n)) = true
+is_gap (Err f) = false
 
 -- a segment: Version (2), first, last
 abbrev pub segment_layout : ℕ → List ℕ
@@ -81,7 +82,7 @@ pub record Free (mode : Mode) (s qs : List ℕ) (h : FileHead) : Type 0 where
   pub place : starts qs h.seekfree ≡ true
   pub from : ℕ
   pub end : ℕ
-  pub held : free_in s h.seekfree h.nbytesfree ≡ Held from end
+  pub held : free_in s h.seekfree h.nbytesfree ≡ Some (span from end)
   -- its data is exactly nfree segments (at least 1: the final one is among them)
   pub fit : All (segments_fit h.wide s h.nfree from end)
   -- the final one is END and a last that the file may have
@@ -106,10 +107,11 @@ unfoldable pub held_to : Mode → List ℕ → List ℕ → List ℕ
 held_to true ys xs = ys
 held_to false ys xs = take (length xs - 2) xs
 
-abbrev pub free_data : Mode → Bool → List ℕ → List ℕ → ℕ → Data → Bool
-free_data mode wide s qs n (Held a end) =
-    all (segments_fit wide s n a end) && list_gaps wide (length s) (held_to mode (gaps s qs) (segments_at s n a)) (segments_at s n a)
-free_data mode wide s qs n Bad = false
+abbrev pub free_data : Mode → Bool → List ℕ → List ℕ → ℕ → Option Data → Bool
+free_data mode wide s qs n (Some d) =
+    all (segments_fit wide s n d.from d.end)
+    && list_gaps wide (length s) (held_to mode (gaps s qs) (segments_at s n d.from)) (segments_at s n d.from)
+free_data mode wide s qs n None = false
 
 unfoldable pub free_holds : Mode → List ℕ → List ℕ → FileHead → Bool
 free_holds mode s qs h =

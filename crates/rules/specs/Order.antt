@@ -1,20 +1,18 @@
 -- The order of refusals: document 01, "Order" and "Numbers given back". The verdict of an audit on a byte string,
 -- with tables of a given room.
-use Rattle.std.specs.Prelude.{ℕ, zero, suc, ◌+◌, List, [], ◌∷◌, leb, ltb, length, replicate}
+use Rattle.std.specs.Prelude.{ℕ, zero, suc, ◌+◌, List, [], ◌∷◌, leb, ltb, length, replicate, Option, Some, None, Result, Ok, Err}
 use Rattle.wire.specs.Check.{pick}
+use Rattle.wire.specs.Fault.{number_of as reason_number}
 use Rattle.wire.specs.declared.Answer.{Answer}
 use Rattle.key.specs.Piece.{piece_at}
+use Rattle.wire.specs.declared.fault.Fault.{Fault}
 use Rattle.key.specs.declared.piece.Piece.{Piece}
-use Rattle.key.specs.declared.piece.Piece.TheVariants.{Record, Gap, Refused}
+use Rattle.key.specs.declared.piece.Piece.TheVariants.{Record, Gap}
 use Rattle.directory.specs.Dir.{head_in, head_answer}
 use Rattle.fileheader.specs.File.{opened_as, open_answer}
-use Rattle.directory.specs.declared.Dir.{Dir}
-use Rattle.directory.specs.declared.Dir.TheVariants as header
+use Rattle.directory.specs.declared.DirHead.{DirHead}
 use Rattle.fileheader.specs.declared.FileHead.{FileHead}
-use Rattle.fileheader.specs.declared.Opened.{Opened}
-use Rattle.fileheader.specs.declared.Opened.TheVariants as opened
 use Rattle.keylist.specs.Keys.{free_answer}
-use Rattle.keylist.specs.declared.Data.TheVariants as span
 use Rattle.rules.specs.Free.{Mode, free_holds, info_holds}
 use Rattle.rules.specs.Turn.{Turn, going, stop, rounds, first_parts, stop_at}
 
@@ -27,10 +25,10 @@ abbrev pub prepend : ℕ → Chain → Chain
 prepend p (whole qs) = whole (p ∷ qs)
 prepend p (fault c q) = fault c q
 
-abbrev pub on_piece : (ℕ → Chain) → ℕ → Piece → Chain
-on_piece rest p (Record k) = prepend p (rest (p + k.nbytes))
-on_piece rest p (Gap n) = prepend p (rest (p + n))
-on_piece rest p (Refused c q) = fault c q
+abbrev pub on_piece : (ℕ → Chain) → ℕ → Result Piece Fault → Chain
+on_piece rest p (Ok (Record k)) = prepend p (rest (p + k.nbytes))
+on_piece rest p (Ok (Gap n)) = prepend p (rest (p + n))
+on_piece rest p (Err f) = fault (reason_number f.reason) f.place
 
 -- the chain from p, at most n pieces (a file has fewer pieces than bytes, so zero is not reached)
 unfoldable pub chain : List ℕ → ℕ → ℕ → Chain
@@ -52,12 +50,12 @@ on_turn qs (stop c p) = refused c p 0
 -- of one audit or the other: only the free list's test depends on it
 module _ (mode : Mode) where
   -- 8 head, 9 free, 10 info, then the directories
-  abbrev pub on_head : List ℕ → FileHead → List ℕ → Dir → Turn
-  on_head s h qs (header.Held dh) =
+  abbrev pub on_head : List ℕ → FileHead → List ℕ → Option DirHead → Turn
+  on_head s h qs (Some dh) =
       pick (free_holds mode s qs h)
       (pick (info_holds s qs h) (rounds s h qs (length qs) (first_parts s h qs) (replicate (length qs) 0) 0) (stop 10 h.seekinfo))
-      (stop_at (free_answer h.seekfree span.Bad))
-  on_head s h qs header.Bad = stop_at (head_answer header.Bad)
+      (stop_at (free_answer h.seekfree None))
+  on_head s h qs None = stop_at (head_answer None)
 
   unfoldable pub ruled : List ℕ → FileHead → List ℕ → Turn
   ruled s h qs = on_head s h qs (head_in s h.nbytesname)
@@ -67,9 +65,9 @@ module _ (mode : Mode) where
   on_chain s room h (whole qs) = pick (leb (length qs) room) (on_turn qs (ruled s h qs)) (refused 7 0 (length qs))
   on_chain s room h (fault c p) = refused c p 0
 
-  abbrev pub on_opened : List ℕ → ℕ → Opened → Verdict
-  on_opened s room (opened.Good h) = on_chain s room h (chain s (length s) 100)
-  on_opened s room (opened.Refused c) = refused_as (open_answer (opened.Refused c))
+  abbrev pub on_opened : List ℕ → ℕ → Result FileHead Fault → Verdict
+  on_opened s room (Ok h) = on_chain s room h (chain s (length s) 100)
+  on_opened s room (Err f) = refused_as (open_answer (Err f))
 
   unfoldable pub verdict : List ℕ → ℕ → Verdict
   verdict s room = on_opened s room (opened_as s)

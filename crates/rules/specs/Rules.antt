@@ -1,16 +1,14 @@
 -- The rules for a pass: document 01, "Rules for a pass", over the bytes s, the file header h, a partition qs, and beside each
 -- piece of it a part ps and an owner os. Document 01 calls parts and owners together a giving; here they are an assignment.
 -- The lines Header and Pieces are in Demand.antt.
-use Rattle.std.specs.Prelude.{ℕ, ◌+◌, ◌<◌, ◌≤◌, true, List, [], ◌∷◌, map, ◌⊎◌, ◌≡◌, length, get_or}
+use Rattle.std.specs.Prelude.{ℕ, ◌+◌, ◌<◌, ◌≤◌, true, List, [], ◌∷◌, map, ◌⊎◌, ◌≡◌, length, get_or, Some}
 use Rattle.wire.specs.Check.{All}
 use Rattle.wire.specs.Number.{num_at}
 use Rattle.key.specs.Piece.{piece_at}
 use Rattle.key.specs.declared.header.Key.{Key}
-use Rattle.key.specs.declared.header.Header.TheVariants.{Good}
 use Rattle.directory.specs.Dir.{head_in, dir_of, no_keys}
 use Rattle.keylist.specs.Keys.{list_in, copy_in}
-use Rattle.keylist.specs.declared.Data.TheVariants as span
-use Rattle.directory.specs.declared.Dir.TheVariants.{Held}
+use Rattle.keylist.specs.Keys.{span}
 use Rattle.directory.specs.declared.DirHead.{DirHead}
 use Rattle.fileheader.specs.declared.FileHead.{FileHead}
 use Rattle.rules.specs.Entry.{entry_fits, listed_part}
@@ -32,7 +30,7 @@ Distinct (p ∷ ps) = (In p ps → ⊥) × Distinct ps
 -- Keys list: plain header copies from c on, nothing after
 abbrev pub Copies : List ℕ → ℕ → ℕ → List Key → Type 0
 Copies s end c [] = c ≡ end
-Copies s end c (k ∷ ks) = (copy_in s c end ≡ Good k) × Copies s end (c + k.keylen) ks
+Copies s end c (k ∷ ks) = (copy_in s c end ≡ Some k) × Copies s end (c + k.keylen) ks
 
 -- Copy: each of the copies from c on obeys the rule
 abbrev pub Entries : List ℕ → List ℕ → ℕ → ℕ → List Key → Type 0
@@ -44,7 +42,7 @@ pub record Filled (s qs : List ℕ) (d : ℕ) (dh : DirHead) (ks : List Key) : T
   pub from : ℕ
   pub end : ℕ
   pub place : starts qs dh.seekkeys ≡ true
-  pub held : list_in s dh.seekkeys dh.nbyteskeys d ≡ span.Held from end
+  pub held : list_in s dh.seekkeys dh.nbyteskeys d ≡ Some (span from end)
   pub room : from + 4 ≤ end
   pub count : length ks ≡ num_at 4 s from
   pub copies : Copies s end (from + 4) ks
@@ -90,7 +88,7 @@ module _ (s : List ℕ) (h : FileHead) (qs ps os : List ℕ) where
     pub within : IsRow row
     pub here : start row ≡ d
     pub is : Directory (part row)
-    pub header : dir_of s h d (owner row) ≡ Held dh
+    pub header : dir_of s h d (owner row) ≡ Some dh
 
   -- at d stands a directory whose SeekKeys is p
   abbrev pub KeysOf : ℕ → ℕ → Type 0
@@ -109,7 +107,7 @@ module _ (s : List ℕ) (h : FileHead) (qs ps os : List ℕ) where
     -- none of them is unlisted
     pub known : (i : ℕ) → IsRow i → part i ≤ unlisted
     -- Head, Free list, Info
-    pub head_rule : (dh : DirHead) × (head_in s h.nbytesname ≡ Held dh)
+    pub head_rule : (dh : DirHead) × (head_in s h.nbytesname ≡ Some dh)
     pub free_rule : Free mode s qs h
     pub info_rule : info_holds s qs h ≡ true
     -- a gap is exactly part 0
@@ -120,7 +118,7 @@ module _ (s : List ℕ) (h : FileHead) (qs ps os : List ℕ) where
     pub info_part : (i : ℕ) → IsRow i → Iff (part i ≡ info) (start i ≡ h.seekinfo)
     -- Directory header, Keys list, Copy: each directory, the head and every listed one, obeys them
     pub directory : (i : ℕ) → IsRow i → Directory (part i)
-        → (dh : DirHead) × (ks : List Key) × (dir_of s h (start i) (owner i) ≡ Held dh) × KeysAre s qs (start i) dh ks
+        → (dh : DirHead) × (ks : List Key) × (dir_of s h (start i) (owner i) ≡ Some dh) × KeysAre s qs (start i) dh ks
     -- a record is a keys list with owner d exactly when at d stands a directory whose SeekKeys is the record's place
     pub keys_part : (i d : ℕ) → IsRow i → Iff ((part i ≡ keys) × (owner i ≡ d)) (KeysOf d (start i))
     -- it is listed with owner d exactly when at d stands a directory whose keys list copies it

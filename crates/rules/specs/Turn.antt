@@ -1,24 +1,20 @@
 -- The order of refusals among the directories: document 01, "Order". It goes over the parts and owners given so far; the rules do
 -- not mention it.
-use Rattle.std.specs.Prelude.{ℕ, zero, suc, ◌+◌, ◌-◌, List, [], ◌∷◌, map, eqb, leb, ltb, length, get_or, set}
+use Rattle.std.specs.Prelude.{ℕ, zero, suc, ◌+◌, ◌-◌, List, [], ◌∷◌, map, eqb, leb, ltb, length, get_or, set, Option, Some, None}
 use Rattle.wire.specs.Check.{all, pick}
 use Rattle.wire.specs.Number.{num_at}
 use Rattle.wire.specs.declared.Answer.{Answer}
 use Rattle.key.specs.Piece.{piece_at}
-use Rattle.key.specs.declared.header.Header.{Header}
-use Rattle.key.specs.declared.header.Header.TheVariants.{Good, Bad}
 use Rattle.directory.specs.Dir.{dir_of, no_keys, sub_answer}
 use Rattle.keylist.specs.Keys.{list_in, copy_in, bad_list, list_answer, copy_answer}
 use Rattle.keylist.specs.declared.Data.{Data}
-use Rattle.keylist.specs.declared.Data.TheVariants as span
-use Rattle.directory.specs.declared.Dir.{Dir}
-use Rattle.directory.specs.declared.Dir.TheVariants as header
 use Rattle.directory.specs.declared.DirHead.{DirHead}
 use Rattle.fileheader.specs.declared.FileHead.{FileHead}
 use Rattle.rules.specs.Entry.{entry_fits, dir_class}
 use Rattle.rules.specs.Free.{is_gap}
 use Rattle.rules.specs.Part.{gap, head, free, info, keys, listed, dir, unlisted}
 use Rattle.rules.specs.Row.{starts}
+use Rattle.key.specs.declared.header.Key.{Key}
 
 -- the parts and owners given so far, and the next place of a list; or the number and place of the first refusal
 pub data Turn : Type 0 where
@@ -54,12 +50,12 @@ unfoldable pub listed_mark : List ℕ → ℕ → ℕ
 listed_mark s p = pick (dir_class s (piece_at s p)) (found dir) listed
 
 -- one copy at c, in the list at seek of the directory at d: 12 if it does not parse, 13, 14
-abbrev pub on_copy : List ℕ → List ℕ → ℕ → ℕ → ℕ → List ℕ → List ℕ → Header → Turn
-on_copy s qs d seek c ps os (Good k) =
+abbrev pub on_copy : List ℕ → List ℕ → ℕ → ℕ → ℕ → List ℕ → List ℕ → Option Key → Turn
+on_copy s qs d seek c ps os (Some k) =
     pick (all (entry_fits s qs d c k))
     (give (row_of qs k.seekkey) (listed_mark s k.seekkey) d (c + k.keylen) c ps os)
     (stop 13 c)
-on_copy s qs d seek c ps os Bad = stop_at (copy_answer seek Bad)
+on_copy s qs d seek c ps os None = stop_at (copy_answer seek None)
 
 unfoldable pub copy_turn : List ℕ → List ℕ → ℕ → ℕ → ℕ → List ℕ → List ℕ → ℕ → Turn
 copy_turn s qs d seek end ps os c = on_copy s qs d seek c ps os (copy_in s c end)
@@ -79,22 +75,23 @@ data_turn s qs d seek a end ps os c =
     pick (leb (a + 4) end) (and_then (ended seek end) (copies s qs d seek end (num_at 4 s a) ps os c)) (stop_at (bad_list seek))
 
 -- 12 for the list record, 14 for it, then its data
-abbrev pub on_data : List ℕ → List ℕ → ℕ → ℕ → List ℕ → List ℕ → Data → Turn
-on_data s qs d seek ps os (span.Held a end) = and_then (data_turn s qs d seek a end) (give (row_of qs seek) keys d (a + 4) d ps os)
-on_data s qs d seek ps os span.Bad = stop_at (list_answer seek span.Bad)
+abbrev pub on_data : List ℕ → List ℕ → ℕ → ℕ → List ℕ → List ℕ → Option Data → Turn
+on_data s qs d seek ps os (Some l) =
+    and_then (data_turn s qs d seek l.from l.end) (give (row_of qs seek) keys d (l.from + 4) d ps os)
+on_data s qs d seek ps os None = stop_at (list_answer seek None)
 
 -- the list record is a piece of the partition
-unfoldable pub keys_in : List ℕ → List ℕ → ℕ → DirHead → Data
-keys_in s qs d dh = pick (starts qs dh.seekkeys) (list_in s dh.seekkeys dh.nbyteskeys d) span.Bad
+unfoldable pub keys_in : List ℕ → List ℕ → ℕ → DirHead → Option Data
+keys_in s qs d dh = pick (starts qs dh.seekkeys) (list_in s dh.seekkeys dh.nbyteskeys d) None
 
 unfoldable pub keys_turn : List ℕ → List ℕ → ℕ → DirHead → List ℕ → List ℕ → Turn
 keys_turn s qs d dh ps os =
     pick (all (no_keys dh)) (going ps os 0) (on_data s qs d dh.seekkeys ps os (keys_in s qs d dh))
 
 -- 11, then the keys list
-abbrev pub on_dir : List ℕ → List ℕ → ℕ → List ℕ → List ℕ → Dir → Turn
-on_dir s qs d ps os (header.Held dh) = keys_turn s qs d dh ps os
-on_dir s qs d ps os header.Bad = stop_at (sub_answer d header.Bad)
+abbrev pub on_dir : List ℕ → List ℕ → ℕ → List ℕ → List ℕ → Option DirHead → Turn
+on_dir s qs d ps os (Some dh) = keys_turn s qs d dh ps os
+on_dir s qs d ps os None = stop_at (sub_answer d None)
 
 -- the directory in a row
 unfoldable pub dir_turn : List ℕ → FileHead → List ℕ → ℕ → List ℕ → List ℕ → Turn

@@ -6,18 +6,21 @@ use mathlib.Core.Logic.{◌⊎◌, inl, inr, ⊎_elim}
 use mathlib.Core.Path.{◌≡◌, refl, sym, ap, ◌∙◌, subst}
 use native.Mathlib.Omega.{arith}
 use borrow.Author.Tests.{lt-ltb, le-ltb, ltb-false}
+use borrow.Rule.Slice.PartMut.{mid_of, put_mid}
 use lib.Dec.{ltb}
 use lib.ListN.{length}
 use Rattle.wire.specs.Answer.{refusal}
 use Rattle.wire.specs.Check.{pick}
 use Rattle.wire.specs.Patch.{patch}
-use Rattle.wire.specs.declared.Answer.{Answer}
+use Rattle.wire.specs.Fault.{fault, number_of as reason_number}
+use Rattle.wire.specs.declared.fault.Fault.{Fault as Refusal}
+use Rattle.wire.specs.declared.fault.Reason.TheVariants as reason
 use Rattle.wire.proofs.Agrees as agree
 use Rattle.wire.proofs.Checks.{false_true, below_or}
 use Rattle.key.specs.Piece.{piece_at, size_of}
+use Rattle.buffer.specs.Store.{put_front}
 use Rattle.fileheader.specs.File.{opened_as}
 use Rattle.fileheader.specs.declared.FileHead.{FileHead}
-use Rattle.fileheader.specs.declared.Opened.TheVariants as opened
 use Rattle.fileheader.proofs.Agrees.{opened_same}
 use Rattle.rules.specs.Free.{Mode}
 use Rattle.rules.specs.Order.{refused, verdict, number_of}
@@ -27,20 +30,21 @@ use Rattle.rules.proofs.Demands.{View, header, faulty, longer, stops, goes, view
 use Rattle.rules.proofs.Numbers.{Late, late}
 use Rattle.rules.proofs.Partitions.{snoc, forward, no_partition, partition_kept, partition_append}
 use Rattle.chain.specs.Walk.{Walks}
-use Rattle.chain.specs.declared.Outcome.TheVariants as walked
-use Rattle.salvage.specs.Mark.{Bounds, Sought, Finds, Unmarked, Dead}
-use Rattle.salvage.specs.Salvage.{Reaches, Opens, Fault, Lowest, Damage, nothing, tail, hole, Damaged, most_gap, salvaged, salvage_answer}
+use Rattle.std.specs.Prelude.{Result, Ok, Err}
+use Rattle.salvage.specs.declared.Mend.{Mend}
+use Rattle.salvage.specs.Mark.{Bounds, Sought, Finds, Unmarked, Dead, mend_at, found_as}
+use Rattle.salvage.specs.Salvage.{Reaches, Opens, Fault, Lowest, Damage, nothing, tail, hole, Damaged, most_gap, salvaged, mended, salvage_answer}
 use Rattle.salvage.specs.Salvage.{gap_bytes, salvage_buffer, Mends}
 use Rattle.salvage.specs.Salvage as damage
 use Rattle.salvage.proofs.Reaches.{lowest_from}
-use Rattle.salvage.proofs.Gaps.{written_length, before_same, after_same, gap_written}
+use Rattle.salvage.proofs.Gaps.{gap_put, written_length, before_same, after_same, gap_written}
 
 -- a header is good or it is not
-two_headers : {A : Type 0} (s : List ℕ) {c : ℕ} → Opens s → opened_as s ≡ opened.Refused c → A
-two_headers {A} s {c} h e = let f = sym h.1 ∙ e in let z : ◌≡◌ {A = ℕ} 0 1 = cc in absurd (omega arith)
+two_headers : {A : Type 0} (s : List ℕ) {f : Refusal} → Opens s → opened_as s ≡ Err f → A
+two_headers {A} s h e = let f = sym h.1 ∙ e in let z : ◌≡◌ {A = ℕ} 0 1 = cc in absurd (omega arith)
 
-same_number : (s : List ℕ) {c d : ℕ} → opened_as s ≡ opened.Refused c → opened_as s ≡ opened.Refused d → c ≡ d
-same_number s {c} {d} e f = let g = sym e ∙ f in cc
+same_refusal : (s : List ℕ) {c d : Refusal} → opened_as s ≡ Err c → opened_as s ≡ Err d → c ≡ d
+same_refusal s {c} {d} e f = let g = sym e ∙ f in cc
 
 -- there is no piece at a fault
 no_size : {s : List ℕ} {p : ℕ} (f : Fault s p) → size_of (piece_at s p) ≡ 0
@@ -51,10 +55,10 @@ good_chain : {A : Type 0} {s : List ℕ} {p : ℕ} → Reaches s 100 → Fault s
 good_chain {s = s} {p = p} r f = absurd (no_partition s 100 f.pieces r.0 p f.chain (no_size f) f.within r.1)
 
 -- a fault is where the chain of every audit gives 5 or 6
-pub fault_told : (mode : Mode) (s : List ℕ) (room : ℕ) {p : ℕ} → Opens s → (f : Fault s p) → verdict mode s room ≡ refused f.number p 0
+pub fault_told : (mode : Mode) (s : List ℕ) (room : ℕ) {p : ℕ} → Opens s → (f : Fault s p) → verdict mode s room ≡ refused (reason_number f.reason) p 0
 unfolding verdict
 fault_told mode s room {p} o f =
-    rw (o.1, chain_fault s 100 f.pieces p (length s) f.number f.chain f.within f.refused (omega arith))
+    rw (o.1, chain_fault s 100 f.pieces p (length s) (fault f.reason p) f.chain f.within f.refused (omega arith))
 
 -- at most one fault
 one_stop : (s : List ℕ) (a : ℕ) (qs rs : List ℕ) (p q : ℕ) → Partition s a p qs → Partition s a q rs → size_of (piece_at s p) ≡ 0
@@ -82,7 +86,7 @@ no_tail : {A : Type 0} {s : List ℕ} {p q r : ℕ} → Fault s p → length s <
 no_tail {s = s} f l g h = let e = one_fault f g in let k = within s h.fills in absurd (omega (arith, h.least))
 
 pub one_damage : (s : List ℕ) (d e : Damage) → Damaged s d → Damaged s e → d ≡ e
-one_damage s (damage.header c) (damage.header d) h k = ap damage.header (same_number s h k)
+one_damage s (damage.header c) (damage.header d) h k = ap damage.header (same_refusal s h k)
 one_damage s (damage.header c) nothing h k = two_headers s k.0 h
 one_damage s (damage.header c) (tail q) h k = two_headers s k.0 h
 one_damage s (damage.header c) (hole q r) h k = two_headers s k.0 h
@@ -108,51 +112,70 @@ unfolding Unmarked Dead
 none_dead s base m u i h = false_true (sym (u i) ∙ h)
 
 -- what is found
-pub found_header : {s : List ℕ} {c : ℕ} {r : Answer} → opened.Refused c ≡ opened_as s → r ≡ refusal c 0 → Finds s r
-found_header {s} {c} e f = record { damage = damage.header c; is = sym e; answer = f }
+pub found_header : {s : List ℕ} {f : Refusal} → Err f ≡ opened_as s → Finds s (Err f)
+found_header {s} {f} e = record { damage = damage.header f; is = sym e; found = refl }
 
-module _ (s : List ℕ) {h : FileHead} (o : opened.Good h ≡ opened_as s) where
+module _ (s : List ℕ) {h : FileHead} (o : Ok h ≡ opened_as s) where
   opens : Opens s
   opens = (h, sym o)
 
-  pub found_nothing : {t u : List ℕ} {n : ℕ} → Walks s t u (walked.Whole n) → Finds s (salvaged (length s) (length s))
+  pub found_nothing : {t u : List ℕ} {n : ℕ} → Walks s t u (Ok n) → Finds s (Ok (mend_at (length s) (length s)))
   found_nothing w =
       let x = w.long (opened_long s (sym o)) in
-      record { damage = nothing; is = (opens, (x.0, x.1)); answer = refl }
+      record { damage = nothing; is = (opens, (x.0, x.1)); found = refl }
 
-  pub fault_there : {t u : List ℕ} {c p : ℕ} → Walks s t u (walked.Fault c p) → Fault s p
-  fault_there {c = c} w =
-      let x = w.long (opened_long s (sym o)) in
-      record { pieces = x.0; chain = x.1; within = x.2; number = c; refused = x.3 }
+  module _ {t u : List ℕ} {f : Refusal} (k : Walks s t u (Err f)) where
+    first : Fault s f.place
+    first =
+        let x = k.long (opened_long s (sym o)) in
+        record { pieces = x.0; chain = x.1; within = x.2; reason = f.reason; refused = x.3 }
 
-  module _ {p : ℕ} (f : Fault s p) where
-    pub found_tail : {r : Answer} → length s < p + 4 → r ≡ refusal 27 p → Finds s r
-    found_tail l e = record { damage = tail p; is = (opens, (f, l)); answer = e }
+    pub found_within : f.place < length s
+    found_within = first.within
 
-    module _ {stop q : ℕ} (b : Bounds p (length s) stop) (w : Sought s (p + 4) stop q) where
+    pub found_tail : {e : Refusal} → length s < f.place + 4 → e ≡ fault reason.Salvage f.place → Finds s (Err e)
+    found_tail l e = record { damage = tail f.place; is = (opens, (first, l)); found = ap (λ (x : Refusal). Err x) e }
+
+    module _ {stop q : ℕ} (b : Bounds f.place (length s) stop) (w : Sought s (f.place + 4) stop q) where
       -- too long a gap: the lowest place is q, or lies behind it and was not looked for
-      pub found_wide : {r : Answer} → most_gap < q - p → r ≡ refusal 27 p → Finds s r
+      pub found_wide : {e : Refusal} → most_gap < q - f.place → e ≡ fault reason.Salvage f.place → Finds s (Err e)
       found_wide l e =
-          let x = lowest_from s (p + 4) (length s - q) q (omega (arith, w.within, b.within)) w.least w.none in
-          let m : most_gap < x.0 - p = omega (arith, x.1) in
-          record { damage = hole p x.0; is = (opens, (f, x.2)); answer = e ∙ rw (lt-ltb most_gap (x.0 - p) m) }
+          let x = lowest_from s (f.place + 4) (length s - q) q (omega (arith, w.within, b.within)) w.least w.none in
+          let m : most_gap < x.0 - f.place = omega (arith, x.1) in
+          record {
+            damage = hole f.place x.0;
+            is = (opens, (first, x.2));
+            found = rw (lt-ltb most_gap (x.0 - f.place) m) (ap (λ (x : Refusal). Err x) e);
+          }
 
       -- a place within reach: it fills, also where all were tried and it is END
-      filling : q - p ≤ most_gap → Reaches s q
+      filling : q - f.place ≤ most_gap → Reaches s q
       filling l =
           ⊎_elim (λ (m : q < stop). w.fills m)
           (λ (m : stop ≤ q).
           ⊎_elim (λ (e : stop ≡ length s). ([], omega (arith, w.within)))
-          (λ (k : most_gap < stop - p). absurd (omega (arith, w.within)))
+          (λ (k : most_gap < stop - f.place). absurd (omega (arith, w.within)))
           b.enough)
           (below_or q stop)
 
-      pub found_hole : q - p ≤ most_gap → Finds s (salvaged p q)
+      pub found_hole : q - f.place ≤ most_gap → Finds s (Ok (mend_at f.place q))
       found_hole l = record {
-        damage = hole p q;
-        is = (opens, (f, record { least = w.least; fills = filling l; none = w.none }));
-        answer = rw (le-ltb most_gap (q - p) l);
+        damage = hole f.place q;
+        is = (opens, (first, record { least = w.least; fills = filling l; none = w.none }));
+        found = rw (le-ltb most_gap (q - f.place) l) refl;
       }
+
+-- its number, place and count
+answered : (s : List ℕ) (d : Damage) → mended (found_as s d) ≡ salvage_answer s d
+answered s (damage.header f) = refl
+answered s nothing = refl
+answered s (tail p) = refl
+answered s (hole p q) = go (ltb most_gap (q - p))
+  where
+    go : (b : Bool)
+        → mended (pick b (Err (fault reason.Salvage p)) (Ok (mend_at p q))) ≡ pick b (refusal 27 p) (salvaged p q)
+    go true = refl
+    go false = refl
 
 -- a file whose header is good and whose pieces fill 100 to END: no audit gives 1 to 6
 module _ (s : List ℕ) (o : Opens s) (r : Reaches s 100) (mode : Mode) (room : ℕ) where
@@ -177,113 +200,129 @@ module _ (s : List ℕ) (o : Opens s) (r : Reaches s 100) (mode : Mode) (room : 
   audits_late = audited_by (view mode s room)
 
 -- success: nothing was wrong, or a hole that can be filled
-pub record Hole (s : List ℕ) (a : Answer) : Type 0 where
+pub record Hole (s : List ℕ) (p q : ℕ) : Type 0 where
   pub opened : Opens s
-  pub fault : Fault s a.place
-  pub low : Lowest s (a.place + 4) a.count
-  pub small : a.count - a.place ≤ most_gap
+  pub fault : Fault s p
+  pub low : Lowest s (p + 4) q
+  pub small : q - p ≤ most_gap
 
-abbrev filled_with : List ℕ → Answer → List ℕ
-filled_with s a = patch s a.place (gap_bytes (a.count - a.place))
+abbrev filled_with : List ℕ → ℕ → ℕ → List ℕ
+filled_with s p q = patch s p (gap_bytes (q - p))
 
-abbrev Success : List ℕ → Answer → Damage → Type 0
-Success s a d =
-    ((a.place ≡ a.count) × ((s ≡ salvage_buffer s d) × (Opens s × Reaches s 100))) ⊎ (Hole s a × (filled_with s a ≡ salvage_buffer s d))
+abbrev Success : List ℕ → ℕ → ℕ → Damage → Type 0
+Success s p q d =
+    ((p ≡ q) × ((s ≡ salvage_buffer s d) × (Opens s × Reaches s 100))) ⊎ (Hole s p q × (filled_with s p q ≡ salvage_buffer s d))
 
--- what is answered, and what of it the buffer holds
-module _ {s : List ℕ} {a : Answer} where
-  -- a refusal leaves it
-  left_alone : (d : Damage) → a ≡ salvage_answer s d → (a.number ≡ 0 → ⊥) → s ≡ salvage_buffer s d
-  left_alone (damage.header c) e n = refl
-  left_alone nothing e n = absurd (n (ap (λ (x : Answer). x.number) e))
-  left_alone (tail p) e n = refl
-  left_alone (hole p q) e n = go (ltb most_gap (q - p)) e
-    where
-      go : (b : Bool) → a ≡ pick b (refusal 27 p) (salvaged p q) → s ≡ pick b s (patch s p (gap_bytes (q - p)))
-      go true e = refl
-      go false e = absurd (n (ap (λ (x : Answer). x.number) e))
+-- a refusal has a number, and leaves the buffer
+left_alone : (s : List ℕ) (d : Damage) {f : Refusal} → Damaged s d → Err f ≡ found_as s d → (reason_number f.reason ≡ 0 → ⊥) × (s ≡ salvage_buffer s d)
+left_alone s (damage.header g) {f} h e =
+    let i : f ≡ g = cc in (λ z. omega (arith, opened_number s h, ap (λ (x : Refusal). reason_number x.reason) i), refl)
+left_alone s nothing h e = let z : ◌≡◌ {A = ℕ} 0 1 = cc in absurd (omega arith)
+left_alone s (tail p) {f} h e =
+    let i : f ≡ fault reason.Salvage p = cc in (λ z. omega (arith, ap (λ (x : Refusal). reason_number x.reason) i), refl)
+left_alone s (hole p q) {f} h e = go (ltb most_gap (q - p)) e
+  where
+    go : (b : Bool) → Err f ≡ pick b (Err (fault reason.Salvage p)) (Ok (mend_at p q))
+        → (reason_number f.reason ≡ 0 → ⊥) × (s ≡ pick b s (patch s p (gap_bytes (q - p))))
+    go true e =
+        let i : f ≡ fault reason.Salvage p = cc in (λ z. omega (arith, ap (λ (x : Refusal). reason_number x.reason) i), refl)
+    go false e = let z : ◌≡◌ {A = ℕ} 0 1 = cc in absurd (omega arith)
 
-  success : (d : Damage) → Damaged s d → a ≡ salvage_answer s d → a.number ≡ 0 → Success s a d
-  success (damage.header c) h e z = let n = ap (λ (x : Answer). x.number) e in absurd (omega (arith, opened_number s h))
-  success nothing h e z = inl (ap (λ (x : Answer). x.place) e ∙ sym (ap (λ (x : Answer). x.count) e), (refl, (h.0, h.1)))
-  success (tail p) h e z = let n = ap (λ (x : Answer). x.number) e in absurd (omega arith)
-  success (hole p q) h e z = go (ltb most_gap (q - p)) refl e
-    where
-      go : (b : Bool) → ltb most_gap (q - p) ≡ b → a ≡ pick b (refusal 27 p) (salvaged p q) → Success s a (hole p q)
-      go true i e = let n = ap (λ (x : Answer). x.number) e in absurd (omega arith)
-      go false i e =
-          let x : a.place ≡ p = ap (λ (x : Answer). x.place) e in
-          let y : a.count ≡ q = ap (λ (x : Answer). x.count) e in
-          inr (
-            record {
-              opened = h.0;
-              fault = rw x h.1.0;
-              low = rw (x, y) h.1.1;
-              small = rw (x, y) (ltb-false most_gap (q - p) i);
-            },
-            rw (x, y, i),
-          )
+success : (s : List ℕ) (d : Damage) {m : Mend} → Damaged s d → Ok m ≡ found_as s d → Success s m.from m.to d
+success s (damage.header f) h e = let z : ◌≡◌ {A = ℕ} 0 1 = cc in absurd (omega arith)
+success s nothing {m} h e =
+    let i : m ≡ mend_at (length s) (length s) = cc in
+    inl (ap (λ (x : Mend). x.from) i ∙ sym (ap (λ (x : Mend). x.to) i), (refl, (h.0, h.1)))
+success s (tail p) h e = let z : ◌≡◌ {A = ℕ} 0 1 = cc in absurd (omega arith)
+success s (hole p q) {m} h e = go (ltb most_gap (q - p)) refl e
+  where
+    go : (b : Bool) → ltb most_gap (q - p) ≡ b → Ok m ≡ pick b (Err (fault reason.Salvage p)) (Ok (mend_at p q))
+        → Success s m.from m.to (hole p q)
+    go true i e = let z : ◌≡◌ {A = ℕ} 0 1 = cc in absurd (omega arith)
+    go false i e =
+        let j : m ≡ mend_at p q = cc in
+        let x : m.from ≡ p = ap (λ (x : Mend). x.from) j in
+        let y : m.to ≡ q = ap (λ (x : Mend). x.to) j in
+        inr (
+          record {
+            opened = h.0;
+            fault = rw x h.1.0;
+            low = rw (x, y) h.1.1;
+            small = rw (x, y) (ltb-false most_gap (q - p) i);
+          },
+          rw (x, y, i),
+        )
 
-  module _ (k : Hole s a) where
-    pub hole_fits : a.place + 4 ≤ length s
-    hole_fits = omega (arith, k.low.least, within s k.low.fills)
+module _ {s : List ℕ} {p q : ℕ} (k : Hole s p q) where
+  pub hole_fits : p + 4 ≤ length s
+  hole_fits = omega (arith, k.low.least, within s k.low.fills)
 
-    pub hole_wide : 4 ≤ a.count - a.place
-    hole_wide = omega (arith, k.low.least)
+  pub hole_wide : 4 ≤ q - p
+  hole_wide = omega (arith, k.low.least)
 
-    -- the header is as it was
-    opens_still : Opens (filled_with s a)
-    opens_still =
-        let e = written_length s a.place hole_fits (a.count - a.place) in
-        let g = before_same s a.place hole_fits (a.count - a.place) 0 in
-        let l = forward s 100 k.fault.pieces a.place k.fault.chain in
-        (k.opened.0, sym (opened_same s (filled_with s a) e (agree.within 0 100 g (omega arith) l) (sym k.opened.1)))
+  -- the header is as it was
+  opens_still : Opens (filled_with s p q)
+  opens_still =
+      let e = written_length s p hole_fits (q - p) in
+      let g = before_same s p hole_fits (q - p) 0 in
+      let l = forward s 100 k.fault.pieces p k.fault.chain in
+      (k.opened.0, sym (opened_same s (filled_with s p q) e (agree.within 0 100 g (omega arith) l) (sym k.opened.1)))
 
-    -- the pieces before it, the gap, and the pieces after it
-    fills : Reaches (filled_with s a) 100
-    fills =
-        let p = a.place in
-        let q = a.count in
-        let t = filled_with s a in
-        let r = k.low.fills in
-        let e = written_length s p hole_fits (q - p) in
-        let g = gap_written s p hole_fits (q - p) hole_wide k.small (omega (arith, k.low.least, within s r)) in
-        let z : size_of (piece_at t p) ≡ q - p = ap size_of g in
-        let to : p + size_of (piece_at t p) ≡ q = omega (arith, k.low.least) in
-        let x = partition_kept 100 p k.fault.pieces k.fault.chain (before_same s p hole_fits (q - p) 100) in
-        let b = snoc t 100 k.fault.pieces p x (omega (arith, hole_wide)) in
-        let c = partition_kept q (length s) r.0 r.1
-        (agree.within q (length s) (after_same s p hole_fits (q - p)) k.low.least (omega arith)) in
-        let d = partition_append t 100 q (length s) (k.fault.pieces ++ p ∷ []) r.0 (subst (λ (x : ℕ). Partition t 100 x (k.fault.pieces ++ p ∷ [])) to b) c in
-        ((k.fault.pieces ++ p ∷ []) ++ r.0, subst (λ (x : ℕ). Partition t 100 x ((k.fault.pieces ++ p ∷ []) ++ r.0)) e d)
+  -- the pieces before it, the gap, and the pieces after it
+  fills : Reaches (filled_with s p q) 100
+  fills =
+      let t = filled_with s p q in
+      let r = k.low.fills in
+      let e = written_length s p hole_fits (q - p) in
+      let g = gap_written s p hole_fits (q - p) hole_wide k.small (omega (arith, k.low.least, within s r)) in
+      let z : size_of (piece_at t p) ≡ q - p = ap size_of g in
+      let to : p + size_of (piece_at t p) ≡ q = omega (arith, k.low.least) in
+      let x = partition_kept 100 p k.fault.pieces k.fault.chain (before_same s p hole_fits (q - p) 100) in
+      let b = snoc t 100 k.fault.pieces p x (omega (arith, hole_wide)) in
+      let c = partition_kept q (length s) r.0 r.1
+      (agree.within q (length s) (after_same s p hole_fits (q - p)) k.low.least (omega arith)) in
+      let d = partition_append t 100 q (length s) (k.fault.pieces ++ p ∷ []) r.0 (subst (λ (x : ℕ). Partition t 100 x (k.fault.pieces ++ p ∷ [])) to b) c in
+      ((k.fault.pieces ++ p ∷ []) ++ r.0, subst (λ (x : ℕ). Partition t 100 x ((k.fault.pieces ++ p ∷ []) ++ r.0)) e d)
 
-  module _ (f : Finds s a) where
-    mends : (t : List ℕ) → t ≡ salvage_buffer s f.damage → (a.number ≡ 0 → Opens t) → (a.number ≡ 0 → Reaches t 100) → Mends s t a
-    mends t e o r = record {
-      damage = f.damage;
-      is = f.is;
-      only = λ d h. one_damage s d f.damage h f.is;
-      answer = f.answer;
-      buffer = e;
-      opened = o;
-      filled = r;
-      audited = λ z mode room. audits_late t (o z) (r z) mode room;
-    }
+module _ {s : List ℕ} where
+  mends : {r : Result Mend Refusal} → (f : Finds s r) → (t : List ℕ) → t ≡ salvage_buffer s f.damage
+      → ((mended r).number ≡ 0 → Opens t) → ((mended r).number ≡ 0 → Reaches t 100) → Mends s t (mended r)
+  mends f t e o r = record {
+    damage = f.damage;
+    is = f.is;
+    only = λ d h. one_damage s d f.damage h f.is;
+    answer = ap mended f.found ∙ answered s f.damage;
+    buffer = e;
+    opened = o;
+    filled = r;
+    audited = λ z mode room. audits_late t (o z) (r z) mode room;
+  }
 
-    pub mend_refused : (a.number ≡ 0 → ⊥) → Mends s s a
-    mend_refused n = mends s (left_alone f.damage f.answer n) (λ z. absurd (n z)) (λ z. absurd (n z))
+  pub mend_refused : {r : Result Mend Refusal} {e : Refusal} → r ≡ Err e → Finds s r → Mends s s (mended r)
+  mend_refused i f =
+      let k = left_alone s f.damage f.is (sym i ∙ f.found) in
+      let n = λ (z : (mended _).number ≡ 0). k.0 (sym (ap (λ (x : Result Mend Refusal). (mended x).number) i) ∙ z) in
+      mends f s k.1 (λ z. absurd (n z)) (λ z. absurd (n z))
 
-    module _ (z : a.number ≡ 0) where
-      pub mend_nothing : a.place ≡ a.count → Mends s s a
-      mend_nothing e =
-          ⊎_elim (λ x. mends s x.1.0 (λ i. x.1.1.0) (λ i. x.1.1.1)) (λ x. absurd (omega (arith, hole_wide x.0)))
-          (success f.damage f.is f.answer z)
+  module _ {r : Result Mend Refusal} {m : Mend} (i : r ≡ Ok m) (f : Finds s r) where
+    succeeds : Success s m.from m.to f.damage
+    succeeds = success s f.damage f.is (sym i ∙ f.found)
 
-      pub the_hole : (a.place ≡ a.count → ⊥) → Hole s a × (filled_with s a ≡ salvage_buffer s f.damage)
-      the_hole n = ⊎_elim (λ x. absurd (n x.0)) (λ x. x) (success f.damage f.is f.answer z)
+    pub mend_nothing : m.to ≤ m.from → Mends s s (mended r)
+    mend_nothing e =
+        ⊎_elim (λ x. mends f s x.1.0 (λ i. x.1.1.0) (λ i. x.1.1.1)) (λ x. absurd (omega (arith, hole_wide x.0))) succeeds
 
-      pub mend_hole : (a.place ≡ a.count → ⊥) → {t : List ℕ} → t ≡ filled_with s a → Mends s t a
-      mend_hole n {t} e =
-          let k = the_hole n in
-          mends t (e ∙ k.1) (λ i. subst (λ (x : List ℕ). Opens x) (sym e) (opens_still k.0))
-          (λ i. subst (λ (x : List ℕ). Reaches x 100) (sym e) (fills k.0))
+    module _ (n : m.from < m.to) where
+      the_hole : Hole s m.from m.to × (filled_with s m.from m.to ≡ salvage_buffer s f.damage)
+      the_hole = ⊎_elim (λ x. absurd (omega (arith, x.0))) (λ x. x) succeeds
+
+      pub mend_sized : (4 ≤ m.to - m.from) × (m.to - m.from ≤ most_gap) × (m.from + 4 ≤ length s)
+      mend_sized = (hole_wide the_hole.0, the_hole.0.small, hole_fits the_hole.0)
+
+      pub mend_hole : {ys : List ℕ} → ys ≡ put_front (mid_of m.from (length s - m.from) s) (gap_bytes (m.to - m.from))
+          → Mends s (put_mid m.from (length s - m.from) s ys) (mended r)
+      mend_hole {ys} e =
+          let k = the_hole in
+          let g : put_mid m.from (length s - m.from) s ys ≡ filled_with s m.from m.to = gap_put s m.from (hole_fits k.0) ys (m.to - m.from) e in
+          mends f (put_mid m.from (length s - m.from) s ys) (g ∙ k.1) (λ z. subst (λ (x : List ℕ). Opens x) (sym g) (opens_still k.0))
+          (λ z. subst (λ (x : List ℕ). Reaches x 100) (sym g) (fills k.0))

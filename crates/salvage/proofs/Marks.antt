@@ -1,12 +1,13 @@
 -- Marks, one bit a place: one more is set, and no other bit of the table changes.
-use Prim.Native.Nat.{ℕ, ◌+◌, ◌-◌, ◌*◌, ◌/◌, ◌%◌, ◌^◌, ◌≤◌, ◌<◌}
+use Prim.Native.Nat.{ℕ, ◌-◌, ◌*◌, ◌/◌, ◌%◌, ◌^◌, ◌≤◌, ◌<◌}
 use mathlib.Core.Bool.{Bool, true, false, not, ◌&&◌, ◌||◌}
 use mathlib.Core.List.{List, [], ◌∷◌}
 use mathlib.Core.Logic.{◌⊎◌, inl, inr, ⊎_elim}
 use mathlib.Core.Path.{◌≡◌, refl, sym, ap, ◌∙◌}
 use native.Mathlib.Omega.{arith}
-use borrow.Author.Tests.{eq-eqb, ne_eqb, eqb-true, eqb-false, ltb-true}
-use lib.Dec.{eqb, ltb}
+use borrow.Author.Tests.{eqb-true, eqb-false}
+use lib.Bits.{bit_and, bit_or}
+use lib.Dec.{eqb}
 use lib.ListN.{length, get_or, set, replicate, get_or-eq_default}
 use lib.Seq.{get_or-set_same, get_or-set_other}
 use Rattle.wire.specs.Check.{Check, yes, all}
@@ -17,13 +18,17 @@ use Rattle.table.specs.Table.{cleared}
 use Rattle.rules.proofs.Frees.{and_both}
 use Rattle.salvage.specs.Mark.{bit_of, marked, Marks, Unmarked}
 
--- bit k of a byte is set by adding its power
-abbrev adds : ℕ → ℕ → ℕ
-adds b k = b + 1 * 2 ^ k % 256
+-- bit k, alone in a byte
+abbrev mask : ℕ → ℕ
+mask k = 1 * 2 ^ k % 256
 
--- of a byte whose bit k is not set: the sum is a byte, and a bit j that is set in it is bit k or was set before
+-- whether a byte has bit k, as the code tests it
+abbrev pub has : ℕ → ℕ → Bool
+has b k = not (eqb (bit_and b (mask k)) 0)
+
+-- that is bit k, and a bit j that is set after bit k was is bit k or was set before
 abbrev right_bit : ℕ → ℕ → ℕ → Bool
-right_bit b k j = bit_of b k || (ltb (adds b k) 256 && (eqb j k || (not (bit_of (adds b k) j) || bit_of b j)))
+right_bit b k j = (has b k || not (bit_of b k)) && ((not (has b k) || bit_of b k) && (eqb j k || (not (bit_of (bit_or b (mask k)) j) || bit_of b j)))
 
 -- for every byte and every two bits, computed
 abbrev bits : ℕ → ℕ → List Check
@@ -49,24 +54,29 @@ no_bit : (k : ℕ) → k < 8 → bit_of 0 k ≡ false
 no_bit k l = flipped (bit_of 0 k) (each_below (λ k. yes (not (bit_of 0 k)) ∷ []) 8 no_bits k l).0
 
 -- the parts of the test
-summed : (x t e : Bool) → x ≡ false → (x || (t && e)) ≡ true → (t ≡ true) × (e ≡ true)
-summed true t e f h = false_true (sym f)
-summed false t e f h = and_both t e h
+same : (x y : Bool) → (x || not y) ≡ true → (not x || y) ≡ true → x ≡ y
+same true true e f = refl
+same true false e f = false_true f
+same false true e f = false_true e
+same false false e f = refl
 
 either : (e x y : Bool) → (e || (not x || y)) ≡ true → x ≡ true → (e ≡ true) ⊎ (y ≡ true)
 either true x y h f = inl refl
 either false true y h f = inr h
 either false false y h f = false_true f
 
-module _ (b k : ℕ) (l : b < 256) (m : k < 8) (z : bit_of b k ≡ false) where
-  bit_fits : adds b k < 256
-  bit_fits = ltb-true (adds b k) 256 (summed (bit_of b k) (ltb (adds b k) 256) _ z (right b k 0 l m (omega arith))).0
+module _ (b k : ℕ) (l : b < 256) (m : k < 8) where
+  bit_told : has b k ≡ bit_of b k
+  bit_told =
+      let r = and_both (has b k || not (bit_of b k)) _ (right b k 0 l m (omega arith)) in
+      same (has b k) (bit_of b k) r.0 (and_both (not (has b k) || bit_of b k) _ r.1).0
 
-  bit_new : (j : ℕ) → j < 8 → bit_of (adds b k) j ≡ true → (j ≡ k) ⊎ (bit_of b j ≡ true)
+  bit_new : (j : ℕ) → j < 8 → bit_of (bit_or b (mask k)) j ≡ true → (j ≡ k) ⊎ (bit_of b j ≡ true)
   bit_new j n h =
-      let s = (summed (bit_of b k) (ltb (adds b k) 256) _ z (right b k j l m n)).1 in
+      let r = and_both (has b k || not (bit_of b k)) _ (right b k j l m n) in
+      let s = (and_both (not (has b k) || bit_of b k) _ r.1).1 in
       ⊎_elim (λ (e : eqb j k ≡ true). inl (eqb-true j k e)) (λ (e : bit_of b j ≡ true). inr e)
-      (either (eqb j k) (bit_of (adds b k) j) (bit_of b j) s h)
+      (either (eqb j k) (bit_of (bit_or b (mask k)) j) (bit_of b j) s h)
 
 -- the table
 pub none_marked : (m u : List ℕ) → u ≡ cleared m 0 → Unmarked u
@@ -89,28 +99,16 @@ module _ (m : List ℕ) (i : ℕ) where
     new = λ j h. inr h;
   }
 
-  pub mark_old : byte / 2 ^ (i % 8) % 2 ≡ 1 → Marks m m i true
-  unfolding marked bit_of
-  mark_old e = record { told = sym (eq-eqb (byte / 2 ^ (i % 8) % 2) 1 e); new = λ j h. inr h }
-
-  module _ (n : byte / 2 ^ (i % 8) % 2 ≡ 1 → ⊥) (l : byte < 256) where
-    unset : bit_of byte (i % 8) ≡ false
-    unfolding bit_of
-    unset = ne_eqb (byte / 2 ^ (i % 8) % 2) 1 n
-
-    pub mark_fits : adds byte (i % 8) < 256
-    mark_fits = bit_fits byte (i % 8) l (omega arith) unset
-
-    pub mark_new : i / 8 < length m → Marks m (set m (i / 8) (adds byte (i % 8))) i false
-    unfolding marked
-    mark_new k = record { told = sym unset; new = λ j h. go j (eqb (j / 8) (i / 8)) refl h }
-      where
-        go : (j : ℕ) (t : Bool) → eqb (j / 8) (i / 8) ≡ t → marked (set m (i / 8) (adds byte (i % 8))) j ≡ true
-            → (j ≡ i) ⊎ (marked m j ≡ true)
-        go j true e h =
-            let q = eqb-true (j / 8) (i / 8) e in
-            ⊎_elim (λ (r : j % 8 ≡ i % 8). inl (omega arith)) (λ (r : bit_of byte (j % 8) ≡ true). inr (rw q r))
-            (bit_new byte (i % 8) l (omega arith) unset (j % 8) (omega arith)
-            (rw (q, get_or-set_same m (i / 8) (adds byte (i % 8)) 0 k) at h))
-        go j false e h =
-            inr (rw (get_or-set_other m (i / 8) (j / 8) (adds byte (i % 8)) 0 (eqb-false (j / 8) (i / 8) e)) at h)
+  pub mark_new : i / 8 < length m → byte < 256 → Marks m (set m (i / 8) (bit_or byte (mask (i % 8)))) i (has byte (i % 8))
+  unfolding marked
+  mark_new k l = record { told = bit_told byte (i % 8) l (omega arith); new = λ j h. go j (eqb (j / 8) (i / 8)) refl h }
+    where
+      go : (j : ℕ) (t : Bool) → eqb (j / 8) (i / 8) ≡ t → marked (set m (i / 8) (bit_or byte (mask (i % 8)))) j ≡ true
+          → (j ≡ i) ⊎ (marked m j ≡ true)
+      go j true e h =
+          let q = eqb-true (j / 8) (i / 8) e in
+          ⊎_elim (λ (r : j % 8 ≡ i % 8). inl (omega arith)) (λ (r : bit_of byte (j % 8) ≡ true). inr (rw q r))
+          (bit_new byte (i % 8) l (omega arith) (j % 8) (omega arith)
+          (rw (q, get_or-set_same m (i / 8) (bit_or byte (mask (i % 8))) 0 k) at h))
+      go j false e h =
+          inr (rw (get_or-set_other m (i / 8) (j / 8) (bit_or byte (mask (i % 8))) 0 (eqb-false (j / 8) (i / 8) e)) at h)

@@ -16,7 +16,8 @@ use Rattle.rules.specs.Partition.{Partition}
 use Rattle.rules.proofs.Chains.{whole_partition, fault_partition}
 use Rattle.rules.proofs.Partitions.{no_partition}
 use Rattle.chain.specs.Walk.{step_of}
-use Rattle.chain.specs.declared.Outcome.TheVariants.{Fault}
+use Rattle.std.specs.Prelude.{Err}
+use Rattle.wire.specs.declared.fault.Fault.{Fault}
 use Rattle.chain.proofs.Walks.{Sized, stopped}
 use Rattle.salvage.specs.Mark.{marked, Marks, Dead, Tried, Passed, Sought}
 use Rattle.salvage.specs.Salvage.{Reaches, Lowest}
@@ -72,7 +73,7 @@ module _ {s : List ℕ} {base from : ℕ} {m₀ m : List ℕ} {at : ℕ} (w : Tr
       record { fills = λ i. w.fills ([], e); none = λ i. false_true (sym i); dead = λ i. false_true (sym i) }
 
   module _ (l : at < length s) where
-    pub try_stopped : {c q : ℕ} → Fault c q ≡ step_of (piece_at s at) → Tried s base from m false
+    pub try_stopped : {f : Fault} → Err f ≡ step_of (piece_at s at) → Tried s base from m false
     try_stopped e =
         let z = ap size_of (stopped s at e).1 in ends_here (λ x. let g = reach_on s at l x in omega (arith, g.0)) w.leads
 
@@ -116,13 +117,13 @@ zeros_none s p r l e k m x =
 pub pass_began : (s : List ℕ) (from stop : ℕ) → from < stop → Passed s from stop from
 pass_began s from stop l = record { above = omega arith; below = l; none = λ r a b. absurd (omega arith) }
 
-pub pass_on : {s : List ℕ} {from stop q : ℕ} → Passed s from stop q → 8 ≤ stop - q → stop ≤ length s → num_at 8 s q ≡ 0
+pub pass_on : {s : List ℕ} {from stop q v : ℕ} → Passed s from stop q → 8 ≤ stop - q → stop ≤ length s → v ≡ num_at 8 s q → v ≡ 0
     → Passed s from stop (q + 5)
-pass_on {s} {from} {stop} {q} w l k e = record {
+pass_on {s} {from} {stop} {q} w l k e z = record {
   above = omega (arith, w.above);
   below = omega (arith, w.below);
   none = λ r a b x. ⊎_elim (λ (c : r < q). w.none r a c x)
-      (λ (c : q ≤ r). zeros_none s q r (omega (arith, w.below)) e c b x) (below_or r q);
+      (λ (c : q ≤ r). zeros_none s q r (omega (arith, w.below)) (sym e ∙ z) c b x) (below_or r q);
 }
 
 -- while the lowest place is looked for
@@ -137,39 +138,34 @@ pub low_began : (s : List ℕ) (base stop : ℕ) (m : List ℕ) → Dead s base 
 low_began s base stop m d l = record { long = refl; above = omega arith; within = l; dead = d; none = λ r a b. absurd (omega arith) }
 
 module _ {s : List ℕ} {base stop : ℕ} {m₀ m : List ℕ} {q : ℕ} (w : Lowering s base stop m₀ m q) where
-  module _ {q' : ℕ} (n : Passed s q stop q') where
-    none_before : (r : ℕ) → base ≤ r → r < q' → Reaches s r → ⊥
-    none_before r a b x = ⊎_elim (λ (c : r < q). w.none r a c x) (λ (c : q ≤ r). n.none r c b x) (below_or r q)
-
-    -- nothing below the place that is tried next
-    pub low_past : Lowering s base stop m₀ m q'
-    low_past = record {
-      long = w.long;
-      above = omega (arith, w.above, n.above);
-      within = omega (arith, n.below);
-      dead = w.dead;
-      none = none_before;
-    }
-
-  pub low_found : {m' : List ℕ} {r : Bool} → Tried s base q m' r → r ≡ true → Sought s base stop q
-  low_found k e = record { least = w.above; within = w.within; fills = λ l. k.fills e; none = w.none }
-
   pub low_ended : stop ≤ q → Sought s base stop q
   low_ended l = record { least = w.above; within = w.within; fills = λ m. absurd (omega arith); none = w.none }
 
-  pub low_on : {m' : List ℕ} {r : Bool} → Tried s base q m' r → r ≡ false → length m' ≡ length m → q < stop
-      → Lowering s base stop m₀ m' (q + 1)
-  low_on k e j l = record {
-    long = j ∙ w.long;
-    above = omega (arith, w.above);
-    within = omega arith;
-    dead = k.dead e;
-    none = λ r a b x. go r a b x;
-  }
-    where
-      go : (r : ℕ) → base ≤ r → r < q + 1 → Reaches s r → ⊥
-      go r a b x =
-          ⊎_elim (λ (c : r < q). w.none r a c x) (λ (c : q ≤ r). let f : r ≡ q = omega arith in k.none e (subst (Reaches s) f x)) (below_or r q)
+  -- the place that is tried next: nothing below it
+  module _ {q' : ℕ} (n : Passed s q stop q') {m' : List ℕ} {r : Bool} (k : Tried s base q' m' r) where
+    none_before : (r : ℕ) → base ≤ r → r < q' → Reaches s r → ⊥
+    none_before r a b x = ⊎_elim (λ (c : r < q). w.none r a c x) (λ (c : q ≤ r). n.none r c b x) (below_or r q)
+
+    pub low_found : r ≡ true → Sought s base stop q'
+    low_found e = record {
+      least = omega (arith, w.above, n.above);
+      within = omega (arith, n.below);
+      fills = λ l. k.fills e;
+      none = none_before;
+    }
+
+    pub low_on : r ≡ false → length m' ≡ length m → Lowering s base stop m₀ m' (q' + 1)
+    low_on e j = record {
+      long = j ∙ w.long;
+      above = omega (arith, w.above, n.above);
+      within = omega (arith, n.below);
+      dead = k.dead e;
+      none = λ r a b x. go r a b x;
+    }
+      where
+        go : (r : ℕ) → base ≤ r → r < q' + 1 → Reaches s r → ⊥
+        go r a b x =
+            ⊎_elim (λ (c : r < q'). none_before r a c x) (λ (c : q' ≤ r). let f : r ≡ q' = omega arith in k.none e (subst (Reaches s) f x)) (below_or r q')
 
 -- a place reaches END or it does not
 reaches_or : (s : List ℕ) (p : ℕ) → p ≤ length s → Reaches s p ⊎ (Reaches s p → ⊥)
@@ -179,7 +175,7 @@ reaches_or s p l = go (chain s (length s + 1) p) refl
     go (whole qs) e = inl (qs, whole_partition s (length s + 1) p qs e l)
     go (fault c q) e =
         let f = fault_partition s (length s + 1) p c q e (omega arith) l in
-        inr (λ r. no_partition s p f.0 r.0 q f.1 (ap size_of f.3) f.2 r.1)
+        inr (λ r. no_partition s p f.0 r.0 q f.1 (ap size_of f.4) f.2 r.1)
 
 -- a lowest place, where no place before q reaches END: q or one behind it
 pub lowest_from : (s : List ℕ) (base n q : ℕ) → q + n ≡ length s → base ≤ q → ((r : ℕ) → base ≤ r → r < q → Reaches s r → ⊥)

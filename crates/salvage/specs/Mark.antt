@@ -1,7 +1,11 @@
 -- Only private functions and proofs use these: places that are marked, one bit each, and what a walk over places tells.
-use Rattle.std.specs.Prelude.{ℕ, ◌+◌, ◌-◌, ◌/◌, ◌%◌, ◌^◌, ◌<◌, ◌≤◌, Bool, true, false, List, ◌⊎◌, ◌≡◌, eqb, get_or}
-use Rattle.wire.specs.declared.Answer.{Answer}
-use Rattle.salvage.specs.Salvage.{Reaches, Damage, Damaged, most_gap, salvage_answer}
+use Rattle.std.specs.Prelude.{ℕ, ◌+◌, ◌-◌, ◌/◌, ◌%◌, ◌^◌, ◌<◌, ◌≤◌, Bool, true, false, List, ◌⊎◌, ◌≡◌, Result, Ok, Err, eqb, ltb, length, get_or}
+use Rattle.wire.specs.Check.{pick}
+use Rattle.wire.specs.Fault.{fault}
+use Rattle.wire.specs.declared.fault.Fault.{Fault}
+use Rattle.wire.specs.declared.fault.Reason.TheVariants as reason
+use Rattle.salvage.specs.declared.Mend.{Mend}
+use Rattle.salvage.specs.Salvage.{Reaches, Damage, header, nothing, tail, hole, Damaged, most_gap}
 
 -- bit k of a byte
 unfoldable pub bit_of : ℕ → ℕ → Bool
@@ -49,8 +53,19 @@ pub record Sought (s : List ℕ) (base stop q : ℕ) : Type 0 where
 unfoldable pub Unmarked : List ℕ → Type 0
 Unmarked m = (i : ℕ) → marked m i ≡ false
 
--- what is wrong with a file, and the answer
-pub record Finds (s : List ℕ) (r : Answer) : Type 0 where
+-- the places of a mend
+abbrev pub mend_at : ℕ → ℕ → Mend
+mend_at p q = record { from = p; to = q }
+
+-- what is found for each damage
+abbrev pub found_as : List ℕ → Damage → Result Mend Fault
+found_as s (header f) = Err f
+found_as s nothing = Ok (mend_at (length s) (length s))
+found_as s (tail p) = Err (fault reason.Salvage p)
+found_as s (hole p q) = pick (ltb most_gap (q - p)) (Err (fault reason.Salvage p)) (Ok (mend_at p q))
+
+-- what is wrong with a file, and what is found
+pub record Finds (s : List ℕ) (r : Result Mend Fault) : Type 0 where
   pub damage : Damage
   pub is : Damaged s damage
-  pub answer : r ≡ salvage_answer s damage
+  pub found : r ≡ found_as s damage

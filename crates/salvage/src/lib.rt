@@ -3,17 +3,31 @@
 #![tactic(auto)]
 
 ghost use Rattle.std.specs.Prelude.{◌≡◌, ◌+◌, ◌<◌, ◌≤◌, length};
-ghost use Rattle.wire.specs.Patch.{patch};
+ghost use Rattle.wire.specs.Fault.{fault};
+ghost use Rattle.wire.specs.declared.fault.Reason.TheVariants as reason;
 ghost use Rattle.salvage.specs.Mark.{Unmarked, Marks, Dead, Tried, Passed, Bounds, Sought, Finds};
-ghost use Rattle.salvage.specs.Salvage.{gap_bytes, most_gap, Mends, Salvages};
+ghost use Rattle.salvage.specs.Salvage.{mended, Mends, Salvages};
 
-use chain::{Outcome, size_at, walk};
-use fileheader::{Opened, open};
-use table::clear_bytes;
+use buffer::put32;
+use chain::{size_at, walk};
+use fileheader::open;
+use table::clear;
+use wire::fault::{Fault, Reason};
 use wire::number::be64;
-use wire::{Answer, refused};
+
+// The greatest gap, whose size four bytes hold.
+const MOST_GAP: usize = 2147483648;
+
+// What was mended: the place of the first fault, and the place after it from which pieces fill the file to its end. Both are END where the
+// chain is good.
+#[derive(Clone, Copy)]
+pub struct Mend {
+    pub from: usize,
+    pub to: usize,
+}
 
 // Marks a place, and tells whether it was marked. Past the table no place is.
+#[tactic(auto, using(crate::proofs::Marks::mark_past, crate::proofs::Marks::mark_new))]
 fn mark(seen: &mut [u8], i: usize) -> bool
     ensures { Marks seen.old seen.new i result }
 {
@@ -21,23 +35,21 @@ fn mark(seen: &mut [u8], i: usize) -> bool
     if seen.len() <= byte {
         return false;
     }
-    let bit = (i % 8) as u32;
-    let old = seen[byte];
-    if (old >> bit) % 2 == 1 {
-        return true;
-    }
-    seen[byte] = old + (1u8 << bit);
-    false
+    let bit = 1u8 << (i % 8);
+    let marked = seen[byte] & bit != 0;
+    seen[byte] |= bit;
+    marked
 }
 
-// Whether pieces fill the file from a place to its end. The pieces on the way are marked; where they do not, none that is marked does.
+// Whether pieces fill the file from a place to its end: the step is a piece, so no range goes over the places. The pieces on the way are marked; where they do not, none that is marked does.
+#[tactic(auto, using(chain::proofs::Walks::stepped, crate::proofs::Reaches::try_marked))]
 fn reach(file: &[u8], seen: &mut [u8], base: usize, from: usize) -> bool
     requires { Dead file.now base seen.old × (base ≤ from) × (from ≤ length file.now) }
     ensures { Tried file.now base from seen.new result }
 {
     let mut next = from;
     while next < file.len() {
-        let Outcome::Whole(size) = size_at(file, next) else {
+        let Ok(size) = size_at(file, next) else {
             return false;
         };
         if mark(seen, next - base) {
@@ -49,22 +61,19 @@ fn reach(file: &[u8], seen: &mut [u8], base: usize, from: usize) -> bool
 }
 
 // The first place from a place on, and before stop, that eight zeros do not rule out: where they stand, no piece begins at the first five.
-// A file may have gigabytes of them.
+// A file may have gigabytes of them. The step is five, to a place that is told.
 fn past_zeros(file: &[u8], from: usize, stop: usize) -> usize
     requires { (from < stop) × (stop ≤ length file.now) }
     ensures { Passed file.now from stop result }
 {
     let mut q = from;
-    while 8 <= stop - q {
-        if be64(file, q) != 0 {
-            return q;
-        }
+    while 8 <= stop - q && be64(file, q) == 0 {
         q += 5;
     }
     q
 }
 
-// The lowest place from base on, and before stop, from which pieces fill the file to its end; stop where there is none.
+// The lowest place from base on, behind zeros that are passed over, and before stop, from which pieces fill the file to its end; stop where there is none.
 fn lowest(file: &[u8], seen: &mut [u8], base: usize, stop: usize) -> usize
     requires { Dead file.now base seen.old × (base ≤ stop) × (stop ≤ length file.now) }
     ensures { Sought file.now base stop result }
@@ -85,81 +94,57 @@ fn end_tries(p: usize, end: usize) -> usize
     requires { p + 4 ≤ end }
     ensures { Bounds p end result }
 {
-    if end - p <= 2147483648 {
-        return end;
-    }
-    p + 2147483649
+    end.min(p.saturating_add(MOST_GAP + 1))
 }
 
-// What is wrong with the chain of a file, as it is answered.
-fn find(file: &[u8], seen: &mut [u8]) -> Answer
+// What is wrong with the chain of a file.
+#[tactic(auto, using(crate::proofs::Damages::found_header, crate::proofs::Damages::found_tail, crate::proofs::Damages::found_wide, crate::proofs::Damages::found_hole, crate::proofs::Damages::none_dead))]
+fn find(file: &[u8], seen: &mut [u8]) -> Result<Mend, Fault>
     requires { Unmarked seen.old }
     ensures { Finds file.now result }
 {
-    match open(file) {
-        Opened::Good(_) => (),
-        Opened::Refused(c) => return refused(c as u64, 0),
-    }
+    open(file)?;
     let end = file.len();
-    let mut none: [u64; 0] = [];
-    let Outcome::Fault(_, p) = walk(file, &mut none) else {
-        return Answer {
-            number: 0,
-            place: end as u64,
-            count: end as u64,
-        };
+    let Err(first) = walk(file, &mut []) else {
+        return Ok(Mend { from: end, to: end });
     };
-    if end - p < 4 {
-        return refused(27, p as u64);
+    let from = first.place;
+    if end - from < 4 {
+        return Err(Reason::Salvage.at(from));
     }
-    let stop = end_tries(p, end);
-    let q = lowest(file, seen, p + 4, stop);
-    if 2147483648 < q - p {
-        return refused(27, p as u64);
+    let to = lowest(file, seen, from + 4, end_tries(from, end));
+    if MOST_GAP < to - from {
+        return Err(Reason::Salvage.at(from));
     }
-    Answer {
-        number: 0,
-        place: p as u64,
-        count: q as u64,
-    }
+    Ok(Mend { from, to })
 }
 
-// Writes the four bytes of a gap.
-fn put_gap(buf: &mut [u8], at: usize, size: usize)
-    requires { (at + 4 ≤ length buf.old) × (4 ≤ size) × (size ≤ most_gap) }
-    ensures { buf.new ≡ patch buf.old at (gap_bytes size) }
+// Writes the four bytes of the gap that mends a file, where one was found.
+#[tactic(auto, using(crate::proofs::Damages::mend_refused, crate::proofs::Damages::mend_nothing, crate::proofs::Damages::mend_sized, crate::proofs::Damages::mend_hole))]
+fn write_gap(buf: &mut [u8], found: Result<Mend, Fault>)
+    requires { Finds buf.old found }
+    ensures { Mends buf.old buf.new (mended found) }
 {
-    let n = 4294967296 - size;
-    buf[at] = (n / 16777216) as u8;
-    buf[at + 1] = (n / 65536 % 256) as u8;
-    buf[at + 2] = (n / 256 % 256) as u8;
-    buf[at + 3] = (n % 256) as u8;
-}
-
-// Mends what was found.
-fn mend(buf: &mut [u8], a: Answer)
-    requires { Finds buf.old a }
-    ensures { Mends buf.old buf.new a }
-{
-    if a.number != 0 {
+    let Ok(m) = found else {
         return;
+    };
+    if m.from < m.to {
+        let size = m.to - m.from;
+        put32(&mut buf[m.from..], (4294967296 - size) as u32);
     }
-    if a.place == a.count {
-        return;
-    }
-    put_gap(buf, a.place as usize, (a.count - a.place) as usize);
 }
 
 // Salvages a file whose chain is broken: at the first fault p a gap is written, up to the lowest q from p + 4 on from which pieces fill
-// the file to its end; 0, p and q are answered. A good chain stays, with 0, END and END. Refused, with the buffer as it was: 1 to 4 as in the
-// audit, 27 at p where no gap can be written. seen is a scratch of any length and content, and zeros afterwards: bit i marks the place
+// the file to its end; p and q are answered. A good chain stays, with END and END. Refused, with the buffer as it was: as the audit refuses
+// the header, or Salvage at p where no gap can be written. seen is a scratch of any length and content, and zeros afterwards: bit i marks the place
 // p + 4 + i. With a bit for each place up to END there are at most twice as many reads of a piece as places; a shorter one costs time alone.
-pub fn salvage(buf: &mut [u8], seen: &mut [u8]) -> Answer
-    ensures { Salvages buf seen result }
+#[tactic(auto, using(crate::proofs::Marks::none_marked))]
+pub fn salvage(buf: &mut [u8], seen: &mut [u8]) -> Result<Mend, Fault>
+    ensures { Salvages buf seen (mended result) }
 {
-    clear_bytes(seen);
-    let a = find(buf, seen);
-    mend(buf, a);
-    clear_bytes(seen);
-    a
+    clear(seen, 0);
+    let found = find(buf, seen);
+    write_gap(buf, found);
+    clear(seen, 0);
+    found
 }

@@ -1,192 +1,155 @@
 // The objects of a StreamerInfo record (document 002).
-ghost use Rattle.std.specs.Prelude.{◌≡◌, ◌+◌, ◌≤◌};
+ghost use Rattle.std.specs.Prelude.{◌+◌, ◌≤◌, IfOk};
 ghost use Rattle.infotag.specs.Stand.{once};
-ghost use Rattle.streamer.specs.Row.{times, element_at};
-ghost use Rattle.streamer.specs.Info.{array_at, class_at, list_object_at, info_at};
-ghost use Rattle.streamer.specs.Runs.{Within, Runs, Ran, Ended, closed_rows};
+ghost use Rattle.streamer.specs.Row.{times};
+ghost use Rattle.streamer.specs.Info.{elements_at, array_at, class_at, list_object_at, info_at};
+ghost use Rattle.streamer.specs.Runs.{Within, Ran, Ended};
 
-use crate::row::{Owner, Rows, Span, element};
+use crate::row::{Owner, Rows, element, start};
 use infoelement::element::read_class;
-use infofield::field::{Opened, Step, ended};
-use infolist::list::{Collection, Objects, read_array, read_list, read_option};
-use infotag::tag::{Head, read_head};
+use infofield::field::ended;
+use infolist::list::{Objects, read_array, read_list, read_option};
+use infotag::tag::Classes;
+use wire::fault::Fault;
 
-// The elements of a class, the objects of its array.
+// The class of the list's objects, and of their arrays.
+const INFO: Classes = Classes { low: 0, high: 0 };
+
+const ARRAY: Classes = Classes { low: 1, high: 1 };
+
+// The elements of a class, the objects of its array, from so many rows on.
+#[tactic(auto, using(crate::proofs::Runs::read_began, crate::proofs::Runs::read_more, crate::proofs::Runs::read_stopped, crate::proofs::Runs::read_ended), unfolding(crate::specs::Info::elements_at))]
 fn elements(
     file: &[u8],
     owner: Owner,
     list: Objects,
     tags: &mut [usize; 12],
     table: &mut [u32],
-    rows: usize,
-) -> Rows
-    requires { Within owner.rec list.end rows 4294967295 }
-    ensures { Runs (times (λ i. element_at once file.now owner list.end) tags.old list.from list.count)
-        tags table rows 4294967295 result }
+    count: usize,
+) -> Result<Rows, Fault>
+    requires { Within owner.rec list.end count 4294967295 }
+    ensures run { Ran (elements_at once file.now owner list tags.old)
+        table.old count result tags.new table.new }
+    ensures grown { IfOk result (λ r. r.count ≤ count + 4294967295) }
 {
-    let count = list.count;
-    let end = list.end;
-    let mut at = list.from;
-    let mut n = rows;
-    let mut i: u32 = 0;
-    while i < count {
-        let r = element(file, owner, Span { at, end }, &mut *tags, &mut *table, n);
-        let Rows::Next(next, more) = r else {
-            return r;
-        };
-        at = next;
-        n = more;
-        i += 1;
-    }
-    Rows::Next(at, n)
-}
-
-// The content of a run stops where its object ends.
-fn close_at(r: Rows, end: usize) -> Rows
-    ensures { result ≡ closed_rows r end }
-{
-    let Rows::Next(at, n) = r else {
-        return r;
+    let mut rows = Rows {
+        next: list.from,
+        count,
     };
-    match ended(at, end) {
-        Step::Next(next) => Rows::Next(next, n),
-        Step::Wrong(number, place) => Rows::Wrong(number, place),
+    for _ in 0..list.count {
+        rows = element(file, owner, list.end, &mut *tags, &mut *table, rows)?;
     }
+    Ok(rows)
 }
 
 // A TObjArray of elements.
+#[tactic(auto, using(crate::proofs::Runs::ran_stop, crate::proofs::Runs::ran_ends), unfolding(crate::specs::Info::array_at))]
 fn array(
     file: &[u8],
     owner: Owner,
-    o: Span,
+    end: usize,
     tags: &mut [usize; 12],
     table: &mut [u32],
-    n: usize,
-) -> Rows
-    requires { Within owner.rec o.end n 4294967295 }
-    ensures { Runs (array_at once file.now owner o.end tags.old o.at)
-        tags table n 4294967295 result }
+    rows: Rows,
+) -> Result<Rows, Fault>
+    requires { Within owner.rec end rows.count 4294967295 }
+    ensures run { Ran (array_at once file.now owner end tags.old rows.next)
+        table.old rows.count result tags.new table.new }
+    ensures grown { IfOk result (λ r. r.count ≤ rows.count + 4294967295) }
 {
-    let start = match read_head(file, owner.rec, o.at, o.end, 1, 1, &*tags) {
-        Head::Known(start) => start,
-        Head::Wrong(number, place) => {
-            return Rows::Wrong(number, place);
-        }
-    };
-    let k = start.class;
-    tags[k] = start.offset;
-    let close = start.close;
-    let list = match read_array(file, start.next, close) {
-        Collection::Held(list) => list,
-        Collection::Wrong(number, place) => {
-            return Rows::Wrong(number, place);
-        }
-    };
-    let end = list.end;
-    let r = elements(file, owner, list, &mut *tags, &mut *table, n);
-    close_at(close_at(r, end), close)
+    let start = start(file, owner.rec, rows.next, end, ARRAY, &mut *tags)?;
+    let list = read_array(file, start.next, start.close)?;
+    let rows = elements(file, owner, list, &mut *tags, &mut *table, rows.count)?;
+    let stop = ended(rows.next, list.end)?;
+    let next = ended(stop, start.close)?;
+    Ok(Rows { next, ..rows })
 }
 
 // A TStreamerInfo.
+#[tactic(auto, using(crate::proofs::Runs::ran_stop, crate::proofs::Runs::ran_ends), unfolding(crate::specs::Info::class_at))]
 fn class(
     file: &[u8],
     owner: Owner,
-    o: Span,
+    end: usize,
     tags: &mut [usize; 12],
     table: &mut [u32],
-    n: usize,
-) -> Rows
-    requires { Within owner.rec o.end n 4294967295 }
-    ensures { Runs (class_at once file.now owner o.end tags.old o.at)
-        tags table n 4294967295 result }
+    rows: Rows,
+) -> Result<Rows, Fault>
+    requires { Within owner.rec end rows.count 4294967295 }
+    ensures run { Ran (class_at once file.now owner end tags.old rows.next)
+        table.old rows.count result tags.new table.new }
+    ensures grown { IfOk result (λ r. r.count ≤ rows.count + 4294967295) }
 {
-    let start = match read_head(file, owner.rec, o.at, o.end, 0, 0, &*tags) {
-        Head::Known(start) => start,
-        Head::Wrong(number, place) => {
-            return Rows::Wrong(number, place);
-        }
+    let start = start(file, owner.rec, rows.next, end, INFO, &mut *tags)?;
+    let body = read_class(file, start.next, start.close)?;
+    let inner = Rows {
+        next: body.from,
+        ..rows
     };
-    let k = start.class;
-    tags[k] = start.offset;
-    let close = start.close;
-    let body = match read_class(file, start.next, close) {
-        Opened::Held(body) => body,
-        Opened::Wrong(number, place) => {
-            return Rows::Wrong(number, place);
-        }
-    };
-    let at = body.from;
-    let end = body.close;
-    let r = array(file, owner, Span { at, end }, &mut *tags, &mut *table, n);
-    close_at(close_at(r, end), close)
+    let rows = array(file, owner, body.close, &mut *tags, &mut *table, inner)?;
+    let stop = ended(rows.next, body.close)?;
+    let next = ended(stop, start.close)?;
+    Ok(Rows { next, ..rows })
 }
 
 // An object of a list: a TStreamerInfo, and the list's option after it.
+#[tactic(auto, using(crate::proofs::Runs::ran_stop, crate::proofs::Runs::ran_onward), unfolding(crate::specs::Info::list_object_at))]
 fn list_object(
     file: &[u8],
     owner: Owner,
     list: Objects,
-    at: usize,
     tags: &mut [usize; 12],
     table: &mut [u32],
-    n: usize,
-) -> Rows
-    requires { Within owner.rec list.end n 4294967295 }
-    ensures { Runs (list_object_at once file.now owner.rec list owner.class tags.old at)
-        tags table n 4294967295 result }
+    rows: Rows,
+) -> Result<Rows, Fault>
+    requires { Within owner.rec list.end rows.count 4294967295 }
+    ensures run { Ran (list_object_at once file.now owner.rec list owner.class tags.old rows.next)
+        table.old rows.count result tags.new table.new }
+    ensures grown { IfOk result (λ r. r.count ≤ rows.count + 4294967295) }
 {
-    let end = list.end;
-    let r = class(file, owner, Span { at, end }, &mut *tags, &mut *table, n);
-    let Rows::Next(after, more) = r else {
-        return r;
-    };
-    match read_option(file, list.version, after, end) {
-        Step::Next(next) => Rows::Next(next, more),
-        Step::Wrong(number, place) => Rows::Wrong(number, place),
-    }
+    let rows = class(file, owner, list.end, &mut *tags, &mut *table, rows)?;
+    let next = read_option(file, list.version, rows.next, list.end)?;
+    Ok(Rows { next, ..rows })
 }
 
 // The objects of a list, each with its option.
+#[tactic(auto, using(crate::proofs::Runs::read_began, crate::proofs::Runs::read_more, crate::proofs::Runs::read_stopped, crate::proofs::Runs::read_ended))]
 fn list_objects(
     file: &[u8],
     rec: usize,
     list: Objects,
     tags: &mut [usize; 12],
     table: &mut [u32],
-) -> Rows
+) -> Result<Rows, Fault>
     requires { list.end ≤ rec + 2147483647 }
     ensures { Ran (times (list_object_at once file.now rec list) tags.old list.from list.count)
         table.old 0 result tags.new table.new }
 {
-    let count = list.count;
-    let mut at = list.from;
-    let mut n: usize = 0;
-    let mut i: u32 = 0;
-    while i < count {
-        let owner = Owner { rec, class: i };
-        let r = list_object(file, owner, list, at, &mut *tags, &mut *table, n);
-        let Rows::Next(next, more) = r else {
-            return r;
-        };
-        at = next;
-        n = more;
-        i += 1;
+    let mut rows = Rows {
+        next: list.from,
+        count: 0,
+    };
+    for class in 0..list.count {
+        rows = list_object(
+            file,
+            Owner { rec, class },
+            list,
+            &mut *tags,
+            &mut *table,
+            rows,
+        )?;
     }
-    Rows::Next(at, n)
+    Ok(rows)
 }
 
 // The rows of the record at a place.
-pub(crate) fn read_record(file: &[u8], at: usize, table: &mut [u32]) -> Rows
+#[tactic(auto, using(crate::proofs::Runs::ended_stop, crate::proofs::Runs::ended_onward), unfolding(crate::specs::Info::info_at))]
+pub(crate) fn read_record(file: &[u8], at: usize, table: &mut [u32]) -> Result<Rows, Fault>
     ensures { Ended (info_at once file.now at) table.old result table.new }
 {
-    let list = match read_list(file, at) {
-        Collection::Held(list) => list,
-        Collection::Wrong(number, place) => {
-            return Rows::Wrong(number, place);
-        }
-    };
-    let end = list.end;
+    let list = read_list(file, at)?;
     let mut tags = [0usize; 12];
-    let r = list_objects(file, at, list, &mut tags, &mut *table);
-    close_at(r, end)
+    let rows = list_objects(file, at, list, &mut tags, &mut *table)?;
+    let next = ended(rows.next, list.end)?;
+    Ok(Rows { next, ..rows })
 }

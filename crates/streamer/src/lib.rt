@@ -5,34 +5,33 @@
 mod info;
 mod row;
 
+ghost use Rattle.wire.specs.Fault.{answer_of};
 ghost use Rattle.streamer.specs.Info.{Informs};
 
 use crate::info::read_record;
-use crate::row::Rows;
-use table::clear32;
-use wire::{Answer, finished, refused};
+use table::clear;
+use wire::fault::{Fault, Reason};
 
-// The rows of the StreamerInfo record at a place, one for each element, then zeros; or only zeros and 5, 6, 20, 19, the first faulty field
-// in byte order (21, 22, 23), or 24 with the rows needed. Every class that an object is taken as has its tag in the record.
-pub fn read_info(file: &[u8], at: usize, table: &mut [u32]) -> Answer
-    ensures { Informs file at table result }
+// The rows of the StreamerInfo record at a place, one for each element, then zeros; or only zeros and a piece's refusal, NotInfo, Packed, the
+// first faulty field in byte order (Count, Tag, Referenced), or Rows with the rows needed. Every class that an object is taken as has its tag in the record.
+pub fn read_info(file: &[u8], at: usize, table: &mut [u32]) -> Result<usize, Fault>
+    ensures { Informs file at table (answer_of result) }
 {
-    clear32(&mut *table);
+    clear(&mut *table, 0);
     match read_record(file, at, &mut *table) {
-        Rows::Next(_next, rows) => {
-            if table.len() / 6 < rows {
-                clear32(&mut *table);
-                return Answer {
-                    number: 24,
-                    place: 0,
-                    count: rows as u64,
-                };
+        Ok(rows) => {
+            if rows.count <= table.len() / 6 {
+                return Ok(rows.count);
             }
-            finished(rows as u64)
+            clear(&mut *table, 0);
+            Err(Fault {
+                reason: Reason::Rows(rows.count as u64),
+                place: 0,
+            })
         }
-        Rows::Wrong(number, place) => {
-            clear32(&mut *table);
-            refused(number as u64, place as u64)
+        Err(fault) => {
+            clear(&mut *table, 0);
+            Err(fault)
         }
     }
 }

@@ -9,9 +9,13 @@ filled_with d xs n = xs ++ replicate (n - length xs) d
 abbrev pub filled : List ℕ → ℕ → List ℕ
 filled xs n = filled_with 0 xs n
 
+-- the table t with one thing from an entry on
+abbrev pub cleared_with : {A : Type 0} → A → List A → ℕ → List A
+cleared_with d t from = filled_with d (take from t) (length t)
+
 -- the table t with zeros from an entry on
 abbrev pub cleared : List ℕ → ℕ → List ℕ
-cleared t from = filled (take from t) (length t)
+cleared t from = cleared_with 0 t from
 
 -- the first n entries are strictly increasing
 abbrev pub Rising : List ℕ → ℕ → Type 0

@@ -3,40 +3,40 @@
 #![tactic(auto)]
 
 ghost use Rattle.std.specs.Prelude.{◌≡◌};
-ghost use Rattle.table.specs.Table.{cleared};
+ghost use Rattle.table.specs.Table.{cleared_with};
+
+// The numbers of a table, each with its 0. `fill` of std asks for a clone that cannot fail, which `Copy` does not say.
+pub trait Number: Copy {
+    ghost ZERO: { Self };
+
+    const ZERO: Self;
+}
+
+impl Number for u8 {
+    ghost ZERO = { 0 };
+
+    const ZERO: u8 = 0;
+}
+
+impl Number for u32 {
+    ghost ZERO = { 0 };
+
+    const ZERO: u32 = 0;
+}
+
+impl Number for u64 {
+    ghost ZERO = { 0 };
+
+    const ZERO: u64 = 0;
+}
 
 // Sets every number of a table to 0 from an entry on; behind the table's end there is nothing to set.
-pub fn clear(table: &mut [u64], from: usize)
-    ensures { table.new ≡ cleared table.old from }
+pub fn clear<T: Number>(table: &mut [T], from: usize)
+    ensures { table.new ≡ cleared_with T.ZERO table.old from }
 {
-    if table.len() <= from {
-        return;
-    }
-    let mut i = from;
-    while i < table.len() {
-        table[i] = 0;
-        i += 1;
-    }
-}
-
-// Sets every number of a table of 32-bit numbers to 0.
-pub fn clear32(words: &mut [u32])
-    ensures { words.new ≡ cleared words.old 0 }
-{
-    let mut i: usize = 0;
-    while i < words.len() {
-        words[i] = 0;
-        i += 1;
-    }
-}
-
-// Sets every byte of a table of bytes to 0.
-pub fn clear_bytes(bytes: &mut [u8])
-    ensures { bytes.new ≡ cleared bytes.old 0 }
-{
-    let mut at: usize = 0;
-    while at < bytes.len() {
-        bytes[at] = 0;
-        at += 1;
+    if from < table.len() {
+        for number in &mut table[from..] {
+            *number = T::ZERO;
+        }
     }
 }

@@ -10,8 +10,10 @@ use Rattle.wire.specs.Lent.{Lent, MutLent, MutLentOf, held, before, after}
 use Rattle.wire.specs.declared.Answer.{Answer}
 use Rattle.wire.proofs.Checks.{below_or}
 use Rattle.wire.proofs.Numbers.{lesser_within}
-use Rattle.wire.proofs.Patches.{repeated_at}
+use Rattle.wire.proofs.Patches.{filled_at}
 use Rattle.key.specs.Piece.{size_at, piece_at, size_of}
+use Rattle.std.specs.Prelude.{Result}
+use Rattle.wire.specs.declared.fault.Fault.{Fault}
 use Rattle.key.specs.declared.piece.Piece.{Piece}
 use Rattle.key.proofs.Pieces.{View, no_size, no_key, a_record, a_gap, view}
 use Rattle.table.specs.Table.{filled_with, filled}
@@ -28,18 +30,11 @@ use Rattle.view.proofs.Lists.{size_none, size_some, length_up_to}
 size_is : (s : List ℕ) (p : ℕ) → 0 < size_of (piece_at s p) → size_at s p ≡ size_of (piece_at s p)
 size_is s p = go (view s p)
   where
-    go : {x : Piece} → View s p x → 0 < size_of x → size_at s p ≡ size_of x
+    go : {x : (Result Piece Fault)} → View s p x → 0 < size_of x → size_at s p ≡ size_of x
     go (no_size h) o = absurd (omega arith)
     go (no_key h e) o = absurd (omega arith)
     go (a_record h) o = h.size
     go (a_gap h e) o = refl
-
--- an entry of a list that is filled up with what is told past its end
-module _ {A : Type 0} (d : A) where
-  filled_at : (xs : List A) (k i : ℕ) → get_or (xs ++ replicate k d) i d ≡ get_or xs i d
-  filled_at [] k i = repeated_at d k i
-  filled_at (x ∷ xs) k zero = refl
-  filled_at (x ∷ xs) k (suc i) = filled_at xs k i
 
 up_to_at : (f : ℕ → Row) (m i : ℕ) → i < m → get_or (up_to f m) i no_row ≡ f i
 unfolding up_to

@@ -20,13 +20,11 @@ pub struct Row {
 fn entry(t: &[u64], i: usize) -> u64
     ensures { result ≡ get_or t.now i 0 }
 {
-    if i < t.len() {
-        return t[i];
-    }
-    0
+    t.get(i).copied().unwrap_or(0)
 }
 
 // The size of the piece that starts at a place, as its bytes give it; 0 at 0, where none starts.
+#[tactic(auto, using(crate::proofs::Lists::size_none, crate::proofs::Lists::size_record, crate::proofs::Lists::size_gap))]
 fn size_in(file: &[u8], at: u64) -> u64
     ensures { result ≡ size_in file.now at }
 {
@@ -40,42 +38,27 @@ fn size_in(file: &[u8], at: u64) -> u64
     4294967296 - n
 }
 
-// Entry i of the tables as a record. One lifetime for all three: fewer in the proof of `show`.
-fn row_at<'f, 'a>(
-    file: &'f [u8],
-    start: &'a [u64],
-    part: &'a [u64],
-    owner: &'a [u64],
-    i: usize,
-) -> Row
+// Entry i of the tables as a record.
+#[tactic(auto, unfolding(crate::specs::View::row_at))]
+fn row_at(file: &[u8], start: &[u64], part: &[u64], owner: &[u64], i: usize) -> Row
     ensures { result ≡ row_at file.now start.now part.now owner.now i }
 {
     let at = entry(start, i);
-    let size = size_in(file, at);
-    let p = entry(part, i);
-    let o = entry(owner, i);
     Row {
         start: at,
-        size,
-        part: p,
-        owner: o,
+        size: size_in(file, at),
+        part: entry(part, i),
+        owner: entry(owner, i),
     }
 }
 
 // Shows the tables in the list, entry by entry to the list's end, 0 past a table's end; each with the size that the bytes at its start
 // give.
-pub fn show<'f, 'a, 'b>(
-    file: &'f [u8],
-    start: &'a [u64],
-    part: &'a [u64],
-    owner: &'a [u64],
-    list: &'b mut [Row],
-)
+#[tactic(auto, using(crate::proofs::Lists::over_none, crate::proofs::Lists::over_more))]
+pub fn show(file: &[u8], start: &[u64], part: &[u64], owner: &[u64], list: &mut [Row])
     ensures { list.new ≡ up_to (row_at file.now start.now part.now owner.now) (length list.old) }
 {
-    let mut i: usize = 0;
-    while i < list.len() {
-        list[i] = row_at(file, start, part, owner, i);
-        i = i + 1;
+    for (i, row) in list.iter_mut().enumerate() {
+        *row = row_at(file, start, part, owner, i);
     }
 }

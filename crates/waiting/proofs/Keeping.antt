@@ -1,5 +1,5 @@
 -- What is kept beside the tables: laws of the number, and what giving and settling keep.
-use Prim.Native.Nat.{ℕ, zero, suc, ◌+◌, ◌-◌, ◌*◌, ◌/◌, ◌%◌, ◌≤◌, ◌<◌}
+use Prim.Native.Nat.{ℕ, zero, suc, ◌+◌, ◌-◌, ◌*◌, ◌/◌, ◌%◌, ◌≤◌, ◌<◌, min}
 use mathlib.Core.List.{List, [], ◌∷◌}
 use mathlib.Core.Logic.{⊎_elim}
 use mathlib.Core.Path.{◌≡◌, refl, sym, ap, ◌∙◌}
@@ -7,25 +7,13 @@ use native.Mathlib.Omega.{arith}
 use lib.ListN.{length, get_or, set, length-set, get_or-eq_default}
 use lib.Seq.{get_or-set_same, get_or-set_other}
 use borrow.Author.Tests.{le-leb, lt-leb}
-use Rattle.wire.specs.Number.{lesser}
 use Rattle.wire.proofs.Checks.{below_or}
-use Rattle.wire.proofs.Numbers.{lesser_within}
 use Rattle.rules.specs.Turn.{next_row}
 use Rattle.rules.proofs.Items.{same?}
 use Rattle.rules.proofs.Rows.{next_row_law, next_row_none}
 use Rattle.waiting.specs.Waiting.{parts_in, waits, waiting_number, node, Tree, Keeps}
 use Rattle.waiting.specs.declared.Waiting.{Waiting}
 use Rattle.waiting.proofs.Trees.{part_at, parts_size, parts_set, row_changed, row_rests, top, clean, bare_tree}
-
-pub least_first : (a b : ℕ) {l : ℕ} → l ≡ lesser a b → l ≤ a
-least_first a b e = omega (arith, e, lesser_within a b)
-
-pub row_told : (n v : ℕ) {m l : ℕ} → m ≡ v → l ≡ lesser n m → (l ≤ n) × (n - l ≡ n - v)
-row_told n v {m} {l} e f =
-    ⊎_elim
-    (λ (h : m < n). let g : l ≡ m = f ∙ rw (lt-leb n m h) in omega arith)
-    (λ (h : n ≤ m). let g : l ≡ n = f ∙ rw (le-leb n m h) in omega arith)
-    (below_or m n)
 
 -- a part that is put into an entry, and the tree mended above it
 module _ (p : List ℕ) (row new x : ℕ) (l : row < length p) (f : new < 16) (e : x ≡ get_or p row 0 / 16 * 16 + new) where
@@ -70,13 +58,6 @@ unfolding waiting_number
 number_holds [] i l h = absurd (omega arith)
 number_holds (k ∷ ks) zero l h = omega (arith, waits_yes k h)
 number_holds (k ∷ ks) (suc i) l h = omega (arith, number_holds ks i (omega arith) h)
-
-lesser_one : (n : ℕ) → 0 < n → {l : ℕ} → l ≡ lesser n 1 → l ≡ 1
-lesser_one n o e =
-    ⊎_elim
-    (λ (g : 1 < n). e ∙ rw (lt-leb n 1 g))
-    (λ (g : n ≤ 1). let x : n ≡ 1 = omega arith in e ∙ rw (le-leb n 1 g) x)
-    (below_or 1 n)
 
 number_rests : (ks : List ℕ) → ((i : ℕ) → i < length ks → get_or ks i 0 < 8) → waiting_number ks ≡ 0
 unfolding waiting_number
@@ -162,25 +143,24 @@ give_kept {qs} {p} {w} row new x k l h e =
 
 -- a directory that is found
 pub found_kept : {qs p : List ℕ} {w : Waiting} (row : ℕ) → Keeps qs p w → (l : row < length p) → (h : get_or p row 0 % 16 ≤ 6) → (q : List ℕ)
-    → (parts_in q ≡ set (parts_in p) row (get_or p row 0 % 8 + 8)) × (Tree p 0 → Tree q 0) → {r : Waiting} {least number : ℕ}
-    → least ≡ lesser w.number (length p - 1) → number ≡ least + 1
+    → (parts_in q ≡ set (parts_in p) row (get_or p row 0 % 8 + 8)) × (Tree p 0 → Tree q 0) → {r : Waiting} {number : ℕ}
+    → number ≡ min w.number (length p - 1) + 1
     → (r.number ≡ number) × (r.row ≡ length q - node q 1) × (r.place ≡ get_or qs r.row 0) → Keeps qs q r
-found_kept {qs} {p} {w} row k l h q f {r} {least} {number} i n j =
+found_kept {qs} {p} {w} row k l h q f n j =
     let y = number_room (parts_in p) row (omega (arith, parts_size p)) (omega (arith, part_at p row)) in
-    let z : least ≡ w.number = i ∙ rw (le-leb w.number (length p - 1) (omega (arith, y, k.number, parts_size p))) in
+    let z = parts_size p in
     changed k q row (get_or p row 0 % 8 + 8) l (omega arith) f.0 (f.1 k.tree) j
-    (omega (arith, z, n, waits_yes (get_or p row 0 % 8 + 8) (omega arith), waits_no (get_or p row 0 % 16) (omega arith)))
+    (omega (arith, waits_yes (get_or p row 0 % 8 + 8) (omega arith), waits_no (get_or p row 0 % 16) (omega arith)))
 
 -- settling
 module _ {qs p : List ℕ} {w : Waiting} (k : Keeps qs p w) (row : ℕ) (l : row < length p) (h : 8 ≤ get_or p row 0 % 16) where
   pub settle_kept : (q : List ℕ) → (parts_in q ≡ set (parts_in p) row (get_or p row 0 % 8)) × (Tree p 0 → Tree q 0)
-      → {r : Waiting} {least number : ℕ} → least ≡ lesser w.number 1 → number ≡ w.number - least
+      → {r : Waiting} {number : ℕ} → number ≡ w.number - 1
       → (r.number ≡ number) × (r.row ≡ length q - node q 1) × (r.place ≡ get_or qs r.row 0) → Keeps qs q r
-  settle_kept q f {r} {least} {number} i n j =
+  settle_kept q f n j =
       let y = number_holds (parts_in p) row (omega (arith, parts_size p)) (rw (part_at p row) h) in
-      let z = lesser_one w.number (omega (arith, y, k.number)) i in
       changed k q row (get_or p row 0 % 8) l (omega arith) f.0 (f.1 k.tree) j
-      (omega (arith, z, n, y, k.number, waits_no (get_or p row 0 % 8) (omega arith), waits_yes (get_or p row 0 % 16) h))
+      (omega (arith, n, y, k.number, waits_no (get_or p row 0 % 8) (omega arith), waits_yes (get_or p row 0 % 16) h))
 
 pub settled_part : (p : List ℕ) (row : ℕ) → get_or p row 0 % 8 ≡ get_or (parts_in p) row 0 % 8
 settled_part p row = rw (part_at p row) (omega arith)

@@ -1,5 +1,5 @@
 -- Laws of the tree: what a change of an entry does to it, and what its top tells.
-use Prim.Native.Nat.{ℕ, zero, suc, ◌+◌, ◌-◌, ◌*◌, ◌/◌, ◌%◌, ◌≤◌, ◌<◌}
+use Prim.Native.Nat.{ℕ, zero, suc, ◌+◌, ◌-◌, ◌*◌, ◌/◌, ◌%◌, ◌≤◌, ◌<◌, max}
 use mathlib.Core.List.{List, [], ◌∷◌}
 use mathlib.Core.Logic.{◌⊎◌, inl, inr, ⊎_elim}
 use mathlib.Core.Path.{◌≡◌, refl, sym, ap, ◌∙◌}
@@ -12,21 +12,11 @@ use Rattle.wire.proofs.Checks.{below_or}
 use Rattle.rules.specs.Turn.{next_row}
 use Rattle.rules.proofs.Items.{same?}
 use Rattle.rules.proofs.Rows.{next_row_at, next_row_none}
-use Rattle.waiting.specs.Waiting.{part_in, parts_in, greater, leaf, node, NodeAt, Tree}
+use Rattle.waiting.specs.Waiting.{part_in, parts_in, leaf, node, NodeAt, Tree}
 
--- the greater of two
-pub greater_within : (a b : ℕ) → (a ≤ greater a b) × (b ≤ greater a b)
-unfolding greater
-greater_within a b =
-    ⊎_elim (λ (l : a < b). rw (lt-ltb a b l) (omega arith)) (λ (l : b ≤ a). rw (le-ltb a b l) (omega arith)) (below_or a b)
-
-pub greater_from : (a b : ℕ) → (greater a b ≡ a) ⊎ (greater a b ≡ b)
-unfolding greater
-greater_from a b =
-    ⊎_elim (λ (l : a < b). inr (rw (lt-ltb a b l))) (λ (l : b ≤ a). inl (rw (le-ltb a b l))) (below_or a b)
-
-pub greater_below : (a b m : ℕ) → a < m → b < m → greater a b < m
-greater_below a b m h k = ⊎_elim (λ (e : greater a b ≡ a). omega arith) (λ (e : greater a b ≡ b). omega arith) (greater_from a b)
+-- the greater of two is one of them
+max_from : (a b : ℕ) → (max a b ≡ a) ⊎ (max a b ≡ b)
+max_from a b = ⊎_elim (λ (l : a < b). inr (omega arith)) (λ (l : b ≤ a). inl (omega arith)) (below_or a b)
 
 -- parts of a table
 pub part_at : (p : List ℕ) (i : ℕ) → get_or (parts_in p) i 0 ≡ get_or p i 0 % 16
@@ -60,6 +50,8 @@ module _ (p : List ℕ) where
 
   pub node_past : (i : ℕ) → length p ≤ i - length p → node p i ≡ 0
   node_past i l = node_rests i (omega arith) (rw (get_or-eq_default p 0 {n = i - length p} l) (omega arith))
+
+pub ruleset nodes = (node_in, node_past, node_rests, node_waits)
 
 -- a row waits or rests in both tables
 abbrev Alike : ℕ → ℕ → Type 0
@@ -122,7 +114,7 @@ module _ (p : List ℕ) (k x : ℕ) (l : k < length p) where
             node_same p (set p k x) i (length-set p k x) (λ _. upper i)
             (λ _. each Alike (lt-leb 8 (x % 16) g ∙ sym (lt-leb 8 (get_or p k 0 % 16) h)) (λ j. refl) (i - length p))
 
-  pub node_mended : 0 < k → (v : ℕ) → v ≡ greater (node p (2 * k)) (node p (2 * k + 1)) → x ≡ v * 16 + get_or p k 0 % 16 → Tree p k
+  pub node_mended : 0 < k → (v : ℕ) → v ≡ max (node p (2 * k)) (node p (2 * k + 1)) → x ≡ v * 16 + get_or p k 0 % 16 → Tree p k
       → Tree (set p k x) (k / 2)
   node_mended o v f e t =
       let s : x % 16 ≡ get_or p k 0 % 16 = omega arith in
@@ -139,33 +131,28 @@ module _ (p : List ℕ) (k x : ℕ) (l : k < length p) where
             (same? i k);
       }
 
-pub tree_whole : (p : List ℕ) (k : ℕ) → get_or p k 0 / 16 ≡ greater (node p (2 * k)) (node p (2 * k + 1)) → Tree p k → Tree p 0
+pub tree_whole : (p : List ℕ) (k : ℕ) → get_or p k 0 / 16 ≡ max (node p (2 * k)) (node p (2 * k + 1)) → Tree p k → Tree p 0
 tree_whole p k e t = record {
   bare = t.bare;
   nodes = λ i o w n. ⊎_elim (λ (z : i ≡ k). rw z e) (λ (z : i ≡ k → ⊥). t.nodes i o w z) (same? i k);
 }
 
 -- the node beside another, and both in either order
-beside : (p : List ℕ) (i : ℕ) → 1 < i → greater (node p i) (node p (i + 1 - i % 2 * 2)) ≡ greater (node p (2 * (i / 2))) (node p (2 * (i / 2) + 1))
+beside : (p : List ℕ) (i : ℕ) → 1 < i → max (node p i) (node p (i + 1 - i % 2 * 2)) ≡ max (node p (2 * (i / 2))) (node p (2 * (i / 2) + 1))
 beside p i o =
     ⊎_elim
     (λ (z : i % 2 ≡ 0).
     let a : i ≡ 2 * (i / 2) = omega arith in
     let b : i + 1 - i % 2 * 2 ≡ 2 * (i / 2) + 1 = omega arith in
-    λ j. greater (node p (a j)) (node p (b j)))
+    λ j. max (node p (a j)) (node p (b j)))
     (λ (z : i % 2 ≡ 0 → ⊥).
     let a : i ≡ 2 * (i / 2) + 1 = omega arith in
     let b : i + 1 - i % 2 * 2 ≡ 2 * (i / 2) = omega arith in
-    (λ j. greater (node p (a j)) (node p (b j))) ∙ either_way (node p (2 * (i / 2) + 1)) (node p (2 * (i / 2))))
+    (λ j. max (node p (a j)) (node p (b j))) ∙ either_way (node p (2 * (i / 2) + 1)) (node p (2 * (i / 2))))
     (same? (i % 2) 0)
   where
-    either_way : (a b : ℕ) → greater a b ≡ greater b a
-    either_way a b =
-        let g = greater_within a b in
-        let h = greater_within b a in
-        ⊎_elim (λ (e : greater a b ≡ a). ⊎_elim (λ (f : greater b a ≡ b). omega arith) (λ (f : greater b a ≡ a). omega arith) (greater_from b a))
-        (λ (e : greater a b ≡ b). ⊎_elim (λ (f : greater b a ≡ b). omega arith) (λ (f : greater b a ≡ a). omega arith) (greater_from b a))
-        (greater_from a b)
+    either_way : (a b : ℕ) → max a b ≡ max b a
+    either_way a b = omega arith
 
 -- while the tree is mended, from the hole above a node upward
 pub record Climbing (p : List ℕ) (from : ℕ) (q : List ℕ) (i v : ℕ) : Type 0 where
@@ -179,12 +166,12 @@ pub climb_began : (p : List ℕ) (i v : ℕ) → (i / 2 < length p) × NodeAt p 
 climb_began p i v h = record { tree = λ t. t; within = h.0; value = h.1; size = refl; same = refl }
 
 module _ {p : List ℕ} {from : ℕ} {q : List ℕ} {i v : ℕ} (c : Climbing p from q i v) (o : 1 < i) {b u : ℕ}
-    (f : NodeAt q (i + 1 - i % 2 * 2) b) (g : u ≡ greater v b) where
-  mended : u ≡ greater (node q (2 * (i / 2))) (node q (2 * (i / 2) + 1))
+    (f : NodeAt q (i + 1 - i % 2 * 2) b) (g : u ≡ max v b) where
+  mended : u ≡ max (node q (2 * (i / 2))) (node q (2 * (i / 2) + 1))
   mended = g ∙ rw (c.value.0, f.0) (beside q i o)
 
   pub climb_small : u < 1152921504606846976
-  climb_small = omega (arith, g, greater_below v b 1152921504606846976 c.value.1 f.1)
+  climb_small = omega (arith, g, c.value.1, f.1)
 
   pub climb_again : (x : ℕ) → x ≡ u * 16 + get_or q (i / 2) 0 % 16 → Climbing p from (set q (i / 2) x) (i / 2) u
   climb_again x e = record {
@@ -206,20 +193,21 @@ pub climb_ended : {p : List ℕ} {from : ℕ} {q : List ℕ} {i v : ℕ} → Cli
     → (parts_in q ≡ parts_in p) × (Tree p (from / 2) → Tree q 0)
 climb_ended {i = i} c h = let z : i / 2 ≡ 0 = omega arith in (c.same, rw z at c.tree)
 
+pub ruleset climbs = (climb_small, climb_rest)
+
 -- what the top tells
 module _ (p : List ℕ) (t : Tree p 0) where
-  node_of : (i : ℕ) → 0 < i → i < length p → node p i ≡ greater (node p (2 * i)) (node p (2 * i + 1))
+  node_of : (i : ℕ) → 0 < i → i < length p → node p i ≡ max (node p (2 * i)) (node p (2 * i + 1))
   node_of i o l = node_in p i l ∙ t.nodes i o l (λ z. omega arith)
 
   -- no node is greater than the one above it, so none is greater than the top
   above : (j : ℕ) → 1 < j → j < 2 * length p → node p j ≤ node p (j / 2)
   above j o l =
       let e = node_of (j / 2) (omega arith) (omega arith) in
-      let g = greater_within (node p (2 * (j / 2))) (node p (2 * (j / 2) + 1)) in
       ⊎_elim
-      (λ (z : j ≡ 2 * (j / 2)). omega (arith, e, g.0, ap (node p) z))
+      (λ (z : j ≡ 2 * (j / 2)). omega (arith, e, ap (node p) z))
       (λ (z : j ≡ 2 * (j / 2) → ⊥).
-      let x : j ≡ 2 * (j / 2) + 1 = omega arith in omega (arith, e, g.1, ap (node p) x))
+      let x : j ≡ 2 * (j / 2) + 1 = omega arith in omega (arith, e, ap (node p) x))
       (same? j (2 * (j / 2)))
 
   up : (n j : ℕ) → j ≤ n → 0 < j → j < 2 * length p → node p j ≤ node p 1
@@ -250,11 +238,11 @@ module _ (p : List ℕ) (t : Tree p 0) where
       ⊎_elim
       (λ (l : j < length p).
       ⊎_elim
-      (λ (z : greater (node p (2 * j)) (node p (2 * j + 1)) ≡ node p (2 * j)).
+      (λ (z : max (node p (2 * j)) (node p (2 * j + 1)) ≡ node p (2 * j)).
       let e = node_of j o l ∙ z in rw e (tells n (2 * j) (omega arith) (omega arith) (omega arith)))
-      (λ (z : greater (node p (2 * j)) (node p (2 * j + 1)) ≡ node p (2 * j + 1)).
+      (λ (z : max (node p (2 * j)) (node p (2 * j + 1)) ≡ node p (2 * j + 1)).
       let e = node_of j o l ∙ z in rw e (tells n (2 * j + 1) (omega arith) (omega arith) (omega arith)))
-      (greater_from (node p (2 * j)) (node p (2 * j + 1))))
+      (max_from (node p (2 * j)) (node p (2 * j + 1))))
       (λ (l : length p ≤ j). leaf_tells j l h)
       (below_or j (length p))
 
@@ -307,9 +295,9 @@ bare_tree p h = record {
     h i,
     none (2 * i),
     none (2 * i + 1),
-    ⊎_elim (λ (z : greater (node p (2 * i)) (node p (2 * i + 1)) ≡ node p (2 * i)). z ∙ none (2 * i))
-        (λ (z : greater (node p (2 * i)) (node p (2 * i + 1)) ≡ node p (2 * i + 1)). z ∙ none (2 * i + 1))
-        (greater_from (node p (2 * i)) (node p (2 * i + 1))),
+    ⊎_elim (λ (z : max (node p (2 * i)) (node p (2 * i + 1)) ≡ node p (2 * i)). z ∙ none (2 * i))
+        (λ (z : max (node p (2 * i)) (node p (2 * i + 1)) ≡ node p (2 * i + 1)). z ∙ none (2 * i + 1))
+        (max_from (node p (2 * i)) (node p (2 * i + 1))),
   );
 }
   where

@@ -1,6 +1,6 @@
 -- Directories found and not done: document 02, request 09, "the lowest place among directories found and not done (0 when there is none) and
 -- their number". They wait in the part table itself: an entry there is the part of its row and, in the bits above, a node of a tree over all rows.
-use Rattle.std.specs.Prelude.{ℕ, ◌+◌, ◌-◌, ◌*◌, ◌/◌, ◌%◌, ◌<◌, ◌≤◌, List, [], ◌∷◌, map, ◌≡◌, leb, ltb, length, get_or, set}
+use Rattle.std.specs.Prelude.{ℕ, ◌+◌, ◌-◌, ◌*◌, ◌/◌, ◌%◌, ◌<◌, ◌≤◌, List, [], ◌∷◌, map, ◌≡◌, leb, ltb, length, get_or, set, max}
 use Rattle.wire.specs.Check.{pick}
 use Rattle.wire.specs.Lent.{Lent, MutLent, held, before, after}
 use Rattle.rules.specs.Part.{dir}
@@ -22,10 +22,6 @@ unfoldable pub waiting_number : List ℕ → ℕ
 waiting_number [] = 0
 waiting_number (k ∷ ps) = waits k + waiting_number ps
 
--- the greater of two numbers
-unfoldable pub greater : ℕ → ℕ → ℕ
-greater a b = pick (ltb a b) b a
-
 -- the node of row r, where a directory waits the number of rows from it on: of two nodes the greater is that of the lower row, and 0 is none
 unfoldable pub leaf : List ℕ → ℕ → ℕ
 leaf p r = pick (leb mark (part_in (get_or p r 0))) (length p - r) 0
@@ -41,7 +37,7 @@ NodeAt p i v = (v ≡ node p i) × (v < 1152921504606846976)
 -- each node but h is the greater of the two below it; entry 0 has none
 pub record Tree (p : List ℕ) (h : ℕ) : Type 0 where
   pub bare : get_or p 0 0 < 16
-  pub nodes : (i : ℕ) → 0 < i → i < length p → (i ≡ h → ⊥) → get_or p i 0 / 16 ≡ greater (node p (2 * i)) (node p (2 * i + 1))
+  pub nodes : (i : ℕ) → 0 < i → i < length p → (i ≡ h → ⊥) → get_or p i 0 / 16 ≡ max (node p (2 * i)) (node p (2 * i + 1))
 
 -- what is kept beside the tables of starts and parts is right: the row of the lowest directory that waits (the number of rows when there is
 -- none), its place, and how many there are

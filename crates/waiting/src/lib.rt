@@ -4,12 +4,10 @@
 #![tactic(auto)]
 
 ghost use Rattle.std.specs.Prelude.{◌≡◌, ◌-◌, ◌/◌, ◌<◌, length, get_or, set};
-ghost use Rattle.waiting.specs.Waiting.{parts_in, greater, node, NodeAt, Tree, Gives, Finds, Settles};
-
-use wire::number::least;
+ghost use Rattle.waiting.specs.Waiting.{parts_in, node, NodeAt, Tree, Gives, Finds, Settles};
 
 // The row of the lowest directory found and not done, the number of rows where there is none; its place, 0 where there is none; and how
-// many such directories there are.
+// many such directories there are: three numbers for none too, as `Keeps` says.
 #[derive(Clone, Copy)]
 pub struct Waiting {
     pub row: usize,
@@ -17,16 +15,8 @@ pub struct Waiting {
     pub number: usize,
 }
 
-fn greater_of(a: u64, b: u64) -> u64
-    ensures { result ≡ greater a b }
-{
-    if a < b {
-        return b;
-    }
-    a
-}
-
 // A node of the tree.
+#[tactic(auto, using(crate::proofs::Trees::nodes))]
 fn node_at(part: &[u64], i: usize) -> u64
     ensures { NodeAt part.now i result }
 {
@@ -35,26 +25,25 @@ fn node_at(part: &[u64], i: usize) -> u64
         return part[i] / 16;
     }
     let row = i - n;
-    if n <= row {
-        return 0;
-    }
-    if part[row] % 16 < 8 {
+    if n <= row || part[row] % 16 < 8 {
         return 0;
     }
     (n - row) as u64
 }
 
 // Mends the tree above a node that has this value: each node above is the greater of the one just left and the one beside that.
+#[tactic(auto, using(crate::proofs::Trees::climbs))]
 fn climb(part: &mut [u64], from: usize, value: u64)
     requires { (from / 2 < length part.old) × NodeAt part.old from value }
     ensures { (parts_in part.new ≡ parts_in part.old) × (Tree part.old (from / 2) → Tree part.new 0) }
 {
     let mut i = from;
     let mut v = value;
+    // A walk up the tree, where i is halved: no range has these steps.
     while 1 < i {
         let beside = node_at(part, i + 1 - i % 2 * 2);
         i = i / 2;
-        v = greater_of(v, beside);
+        v = v.max(beside);
         let old = part[i];
         if old / 16 == v {
             return;
@@ -76,22 +65,16 @@ fn put_part(part: &mut [u64], row: usize, new: u64)
 }
 
 // The lowest of so many directories.
+#[tactic(auto, using(std::proofs::lemmas::Option::gets))]
 fn lowest(start: &[u64], part: &[u64], number: usize) -> Waiting
     ensures { (result.number ≡ number) × (result.row ≡ length part.now - node part.now 1)
         × (result.place ≡ get_or start.now result.row 0) }
 {
     let n = part.len();
-    let row = n - least(n, node_at(part, 1) as usize);
-    if start.len() <= row {
-        return Waiting {
-            row,
-            place: 0,
-            number,
-        };
-    }
+    let row = n.saturating_sub(node_at(part, 1) as usize);
     Waiting {
         row,
-        place: start[row],
+        place: start.get(row).copied().unwrap_or(0),
         number,
     }
 }
@@ -117,7 +100,7 @@ pub fn found(start: &[u64], part: &mut [u64], row: usize, w: Waiting) -> Waiting
     }
     let small = part[row] % 8;
     put_part(part, row, small + 8);
-    lowest(start, part, least(w.number, n - 1) + 1)
+    lowest(start, part, w.number.min(n - 1) + 1)
 }
 
 // The directory in a row is done: its part loses the mark, and what is told is as for one found.
@@ -129,5 +112,5 @@ pub fn settle(start: &[u64], part: &mut [u64], row: usize, w: Waiting) -> Waitin
     }
     let small = part[row] % 8;
     put_part(part, row, small);
-    lowest(start, part, w.number - least(w.number, 1))
+    lowest(start, part, w.number.saturating_sub(1))
 }

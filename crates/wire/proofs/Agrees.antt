@@ -12,7 +12,7 @@ use Rattle.wire.specs.Layout.{extent, values_at}
 use Rattle.wire.specs.Number.{be_value, num_at}
 use Rattle.wire.specs.Text.{least_long, prefix_size, text_size, text_of, length_at, form_fits, text_at, text_checks, text_in}
 use Rattle.wire.specs.declared.text.Text.{Text}
-use Rattle.wire.specs.declared.text.Found.TheVariants.{Held, Cut}
+use Rattle.std.specs.Prelude.{Some, None}
 use Rattle.wire.proofs.Checks.{picked, below_or}
 use Rattle.wire.proofs.Numbers.{num_in}
 use Rattle.wire.proofs.Texts.{Stands, long_size, size_least}
@@ -68,8 +68,8 @@ module _ {s t : List ℕ} where
     there_same = e.is ∙ ap (text_of p) length_same
 
     -- a string that was read is read, within any end
-    pub text_kept : (end' : ℕ) → x.next ≤ end' → end' ≤ length t → Held x ≡ text_in t p end'
+    pub text_kept : (end' : ℕ) → x.next ≤ end' → end' ≤ length t → Some x ≡ text_in t p end'
     unfolding text_in
     text_kept end' f r =
         let c : All (text_checks t p end') = (r, (form_same, (omega (arith, ap (λ (y : Text). y.next) there_same), tt))) in
-        ap Held there_same ∙ sym (picked (text_checks t p end') (Held (text_at t p)) Cut c)
+        ap Some there_same ∙ sym (picked (text_checks t p end') (Some (text_at t p)) None c)

@@ -3,14 +3,19 @@ use Prim.Native.Nat.{ℕ, zero, suc, ◌+◌, ◌*◌, ◌/◌, ◌%◌, ◌^◌
 use mathlib.Core.List.{List, [], ◌∷◌, ◌++◌}
 use mathlib.Core.Logic.{⊎_elim}
 use mathlib.Core.Path.{◌≡◌, refl, sym, ap, ◌∙◌}
-use native.Mathlib.Nat.{add-zero, add_assoc, zero-add, div-add-mod', div-lt_iff_lt-mul, pow-suc}
+use native.Mathlib.Nat.{add-zero, zero-add, div-add-mod', div-lt_iff_lt-mul, pow-suc}
 use native.Mathlib.Numerals.{add-one}
 use native.Mathlib.Omega.{arith}
+use Rattle.std.specs.Prelude.{Option, Some, None, MatchOption}
+use Rattle.std.specs.Int.{w16, w32, w64, from_be_bytes}
+use Rattle.std.proofs.lemmas.List.{length-take-le, take-take, get_or-take}
+use Rattle.std.specs.Array.{IsFirstChunk}
+use Rattle.std.specs.Borrow.{Bor}
 use borrow.Author.Tests.{le-leb, lt-leb}
 use lib.ListN.{length, take, drop, get_or, set, length-append, length-drop}
 use lib.Seq.{sets, sets-eq, get_or-append-add, get_or-drop, take-suc}
 use mathlib.Core.List.{append_assoc}
-use Rattle.wire.specs.Number.{be_value, Bytes, num_at, Word, LittlePair, turned_pair, Little, turned_of, be_bytes, lesser}
+use Rattle.wire.specs.Number.{be_value, Bytes, num_at, be_bytes, lesser}
 use Rattle.wire.specs.Patch.{patch}
 use Rattle.wire.proofs.Checks.{below_or}
 
@@ -48,56 +53,38 @@ pub num_zero : (s : List ℕ) (w p v q : ℕ) → p + w ≤ length s → num_at 
 num_zero s w p v q l e k m =
     num_in v s q (omega arith) ∙ zero_value v s q (λ i a b. value_zero w s p (sym (num_in w s p l) ∙ e) i (omega arith) (omega arith))
 
--- one, two and four bytes, as the code adds them up
+-- one byte
 pub value1 : (s : List ℕ) (p : ℕ) → be_value 1 s p ≡ get_or s p 0
 unfolding be_value
 value1 s p = rw add-zero (omega arith)
 
-pub value2 : (s : List ℕ) (p : ℕ) → be_value 2 s p ≡ get_or s p 0 * 256 + get_or s (p + 1) 0
+-- as std adds up two, four and eight bytes
+pub value2 : (b : List ℕ) → from_be_bytes w16 b ≡ be_value 2 b 0
 unfolding be_value
-value2 s p = rw add-zero (omega arith)
+value2 b = omega arith
 
-pub value4 : (s : List ℕ) (p : ℕ)
-    → be_value 4 s p ≡ get_or s p 0 * 16777216 + get_or s (p + 1) 0 * 65536 + get_or s (p + 2) 0 * 256 + get_or s (p + 3) 0
+pub value4 : (b : List ℕ) → from_be_bytes w32 b ≡ be_value 4 b 0
 unfolding be_value
-value4 s p = rw add-zero (omega arith)
+value4 b = omega arith
 
--- eight bytes are two times four
-value8 : (s : List ℕ) (p : ℕ) → be_value 8 s p ≡ be_value 4 s p * 4294967296 + be_value 4 s (p + 4)
+pub value8 : (b : List ℕ) → from_be_bytes w64 b ≡ be_value 8 b 0
 unfolding be_value
-value8 s p = rw (add-zero p, add-zero (p + 4), add_assoc p 4 1, add_assoc p 4 2, add_assoc p 4 3) (omega arith)
+value8 b = omega arith
 
-pub two_words : (s : List ℕ) (p : ℕ) {a b : ℕ} → p + 8 ≤ length s → Word s p a → Word s (p + 4) b → a * 4294967296 + b ≡ num_at 8 s p
-two_words s p l a b = omega (arith, num_in 8 s p l, value8 s p, value4 s p, value4 s (p + 4))
+-- the number of bytes that stand somewhere is that of these bytes alone
+value_part : (w n : ℕ) (s : List ℕ) (p : ℕ) → w ≤ n → be_value w (take n (drop p s)) 0 ≡ be_value w s p
+unfolding be_value
+value_part zero n s p l = refl
+value_part (suc w) n s p l =
+    rw (value_part w n s p (omega arith), get_or-take n (drop p s) (0 + w) 0 (omega arith), get_or-drop p s (0 + w) 0, zero-add w) refl
 
--- the number of four bytes, from the little-endian one
-digits : (a b c d : ℕ) → a ≤ 255 → b ≤ 255 → c ≤ 255 → d ≤ 255
-    → turned_of (a + b * 256 + c * 65536 + d * 16777216) ≡ a * 16777216 + b * 65536 + c * 256 + d
-digits a b c d l m n o =
-    let e : (a + b * 256 + c * 65536 + d * 16777216) % 256 ≡ a = omega arith in
-    let f : (a + b * 256 + c * 65536 + d * 16777216) / 256 ≡ b + c * 256 + d * 65536 = omega arith in
-    let g : (a + b * 256 + c * 65536 + d * 16777216) / 65536 ≡ c + d * 256 = omega arith in
-    let h : (a + b * 256 + c * 65536 + d * 16777216) / 16777216 ≡ d = omega arith in
-    let i : (b + c * 256 + d * 65536) % 256 ≡ b = omega arith in
-    let j : (c + d * 256) % 256 ≡ c = omega arith in
-    rw (e, f, g, h, i, j)
-
-pub turned_two : {s : List ℕ} {p x r : ℕ} → p + 2 ≤ length s → LittlePair s p x → r ≡ turned_pair x → (r ≡ num_at 2 s p) × (r < 65536)
-turned_two {s} {p} {x} {r} l h e =
-    let a : x % 256 ≡ get_or s p 0 = omega (arith, h.value, h.first, h.second) in
-    let b : x / 256 ≡ get_or s (p + 1) 0 = omega (arith, h.value, h.first, h.second) in
-    (omega (arith, num_in 2 s p l, value2 s p), omega (arith, h.first, h.second))
-
-pub turned_word : {s : List ℕ} {p x r : ℕ} → Little s p x → r ≡ turned_of x → Word s p r
-turned_word {s} {p} {x} {r} l e = record {
-  value =
-      e ∙ ap turned_of l.value
-      ∙ digits (get_or s p 0) (get_or s (p + 1) 0) (get_or s (p + 2) 0) (get_or s (p + 3) 0) l.first l.second l.third l.fourth;
-  first = l.first;
-  second = l.second;
-  third = l.third;
-  fourth = l.fourth;
-}
+pub chunk_read : (w : ℕ) (s t : List ℕ) (p : ℕ) (r : Option (Bor (List ℕ))) → p + w ≤ length s → t ≡ take w (drop p s)
+    → MatchOption r (length t < w) (λ y. IsFirstChunk t y.now w)
+    → MatchOption r (num_at w s p ≡ 0) (λ b. num_at w s p ≡ be_value w b.now 0)
+chunk_read w s t p None l e h = absurd (omega (arith, h, ap length e, length-take-le w (drop p s) (omega (arith, length-drop p s))))
+chunk_read w s t p (Some b) l e h =
+    num_in w s p (omega arith)
+    ∙ sym (ap (λ (x : List ℕ). be_value w x 0) (h.same ∙ ap (take w) e ∙ take-take w w (drop p s) (omega arith)) ∙ value_part w w s p (omega arith))
 
 -- bytes stored one after the other at the front
 pub stored : (x b : List ℕ) → length x ≤ length b → sets b 0 x ≡ patch b 0 x

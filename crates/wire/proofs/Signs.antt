@@ -12,7 +12,7 @@ use mir.Syntax.{w32}
 use mir.Facts.{to_z_pos, to_z-of_z}
 use Rattle.wire.specs.Number.{signed_of, bits16, bits_of}
 use Rattle.wire.specs.Check.{pick}
-use Rattle.wire.specs.declared.number.Bits.TheVariants.{Held, Wide}
+use Rattle.std.specs.Prelude.{Some, None}
 
 pub low : (v : ℕ) → v < 32768 → to_z w32 v ≡ signed_of 2 v
 unfolding signed_of
@@ -29,12 +29,12 @@ unfolding signed_of
 high v l h = to_z-of_z (less_fits v h) ∙ rw (to_z_pos w32 {n = v} (omega arith), less v h, le-ltb (v + v) 65536 (omega arith))
 
 -- out of range, or in it
-wide_low : (z : ℤ) → lt_z z (negsuc 32767) ≡ true → Wide ≡ bits16 z
+wide_low : (z : ℤ) → lt_z z (negsuc 32767) ≡ true → None ≡ bits16 z
 unfolding bits16 bits_of
 wide_low (pos n) h = let e : ◌≡◌ {A = Bool} false true = h in absurd (subst T (sym e) tt)
 wide_low (negsuc n) h = rw (le-ltb n 32768 (omega (arith, ltb-true 32767 n h)))
 
-wide_high : (z : ℤ) → lt_z (pos 32767) z ≡ true → Wide ≡ bits16 z
+wide_high : (z : ℤ) → lt_z (pos 32767) z ≡ true → None ≡ bits16 z
 unfolding bits16 bits_of
 wide_high (pos n) h = rw (le-ltb n 32768 (omega (arith, ltb-true 32767 n h)))
 wide_high (negsuc n) h = let e : ◌≡◌ {A = Bool} false true = h in absurd (subst T (sym e) tt)
@@ -66,10 +66,10 @@ module _ (z : ℤ) (f : SFits w32 z) where
   is : to_z w32 (of_z w32 z) ≡ z
   is = to_z-of_z f
 
-  pub too_low : lt_z (to_z w32 (of_z w32 z)) (negsuc 32767) ≡ true → Wide ≡ bits16 z
+  pub too_low : lt_z (to_z w32 (of_z w32 z)) (negsuc 32767) ≡ true → None ≡ bits16 z
   too_low h = wide_low z (rw is at h)
 
-  pub too_high : lt_z (pos 32767) (to_z w32 (of_z w32 z)) ≡ true → Wide ≡ bits16 z
+  pub too_high : lt_z (pos 32767) (to_z w32 (of_z w32 z)) ≡ true → None ≡ bits16 z
   too_high h = wide_high z (rw is at h)
 
   pub below : lt_z (to_z w32 (of_z w32 z)) (negsuc 32767) ≡ false → lt_z (to_z w32 (of_z w32 z)) (pos 0) ≡ true → Under z
@@ -92,14 +92,14 @@ module _ (z : ℤ) (f : SFits w32 z) where
       × Fits w32 (nat_abs (to_z w32 (of_z w32 (to_z w32 (of_z w32 z) +ℤ pos 65536))))
   sum_cast u = rw (back u) (tt, record { fits = omega arith })
 
-  pub sum_is : Under z → Held (nat_abs (to_z w32 (of_z w32 (to_z w32 (of_z w32 z) +ℤ pos 65536)))) ≡ bits16 z
+  pub sum_is : Under z → Some (nat_abs (to_z w32 (of_z w32 (to_z w32 (of_z w32 z) +ℤ pos 65536)))) ≡ bits16 z
   unfolding bits16 bits_of
   sum_is u = rw (back u, u.is, lt-ltb u.n 32768 u.low)
 
   pub over_cast : Over z → T (non_neg (to_z w32 (of_z w32 z))) × Fits w32 (nat_abs (to_z w32 (of_z w32 z)))
   over_cast u = rw (is, u.is) (tt, record { fits = omega (arith, u.low) })
 
-  pub over_is : Over z → Held (nat_abs (to_z w32 (of_z w32 z))) ≡ bits16 z
+  pub over_is : Over z → Some (nat_abs (to_z w32 (of_z w32 z))) ≡ bits16 z
   unfolding bits16 bits_of
   over_is u = rw (is, u.is, lt-ltb u.n 32768 u.low)
 

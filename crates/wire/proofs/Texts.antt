@@ -14,24 +14,23 @@ use Rattle.wire.specs.Number.{Bytes, num_at, be_bytes}
 use Rattle.wire.specs.Text.{least_long, prefix_bytes, prefix_size, text_size, text_of, length_at, form_fits, text_at, text_checks, text_in}
 use Rattle.wire.specs.Text.{content_of, text_bytes, on_text}
 use Rattle.wire.specs.declared.text.Text.{Text}
-use Rattle.wire.specs.declared.text.Found.{Found}
-use Rattle.wire.specs.declared.text.Found.TheVariants.{Held, Cut}
+use Rattle.std.specs.Prelude.{Option, Some, None}
 use Rattle.wire.proofs.Checks.{picked, not_picked, from_picked, below_or}
 use Rattle.wire.proofs.Layouts.{length_values, read_written, write_read, values_fit}
 
 module _ (s : List ℕ) (p end : ℕ) where
-  pub is_cut : (All (text_checks s p end) → ⊥) → Cut ≡ text_in s p end
+  pub is_cut : (All (text_checks s p end) → ⊥) → None ≡ text_in s p end
   unfolding text_in
   is_cut h = sym (not_picked (text_checks s p end) _ _ h)
 
-  is_held : All (text_checks s p end) → Held (text_at s p) ≡ text_in s p end
+  is_held : All (text_checks s p end) → Some (text_at s p) ≡ text_in s p end
   unfolding text_in
   is_held h = sym (picked (text_checks s p end) _ _ h)
 
-  from_held : {t : Text} → Held t ≡ text_in s p end → (t ≡ text_at s p) × All (text_checks s p end)
+  from_held : {t : Text} → Some t ≡ text_in s p end → (t ≡ text_at s p) × All (text_checks s p end)
   unfolding text_in
   from_held {t} e =
-      let f = from_picked (text_checks s p end) (Held (text_at s p)) Cut e (λ i. let z : ◌≡◌ {A = ℕ} 0 1 = cc in omega arith) in
+      let f = from_picked (text_checks s p end) (Some (text_at s p)) None e (λ i. let z : ◌≡◌ {A = ℕ} 0 1 = cc in omega arith) in
       let g = f.0 in
       (cc, f.1)
 
@@ -100,12 +99,12 @@ module _ (s : List ℕ) (p : ℕ) where
 
 -- what the reader answers, from the length n that it read and the bytes of the prefix
 module _ (s : List ℕ) (p end : ℕ) {n prefix : ℕ} (e : n ≡ length_at s p) (z : prefix_size n ≡ prefix) where
-  length_past : end < p + (prefix + n) → Cut ≡ text_in s p end
+  length_past : end < p + (prefix + n) → None ≡ text_in s p end
   unfolding text_size text_of text_at
   length_past l = is_cut s p end (λ c. omega (arith, c.1.1.0, z, e, ap prefix_size e))
 
   length_held : Holds (form_fits s p) → p + (prefix + n) ≤ end → end ≤ length s
-      → Held (record { start = p + prefix; len = n; next = p + (prefix + n) }) ≡ text_in s p end
+      → Some (record { start = p + prefix; len = n; next = p + (prefix + n) }) ≡ text_in s p end
   unfolding text_size text_of text_at
   length_held f l r = rw (sym z, e) (is_held s p end (r, (f, (omega (arith, z, e, ap prefix_size e), tt))))
 
@@ -114,10 +113,10 @@ module _ (s : List ℕ) (p end : ℕ) {n : ℕ} (e : n ≡ num_at 1 s p) (h : n 
   short_is : n ≡ length_at s p
   short_is = e ∙ short_length s p (omega arith)
 
-  pub short_past : end < p + (1 + n) → Cut ≡ text_in s p end
+  pub short_past : end < p + (1 + n) → None ≡ text_in s p end
   short_past = length_past s p end short_is (short_size n h)
 
-  pub short_held : p + (1 + n) ≤ end → end ≤ length s → Held (record { start = p + 1; len = n; next = p + (1 + n) }) ≡ text_in s p end
+  pub short_held : p + (1 + n) ≤ end → end ≤ length s → Some (record { start = p + 1; len = n; next = p + (1 + n) }) ≡ text_in s p end
   short_held = length_held s p end short_is (short_size n h) (short_fits s p (omega arith))
 
 -- in the long form
@@ -125,14 +124,14 @@ module _ (s : List ℕ) (p end : ℕ) {n : ℕ} (e : n ≡ num_at 4 s (p + 1)) (
   long_is : n ≡ length_at s p
   long_is = e ∙ long_length s p h
 
-  pub long_short : n < least_long → Cut ≡ text_in s p end
+  pub long_short : n < least_long → None ≡ text_in s p end
   long_short l = is_cut s p end (λ c. omega (arith, long_fitting s p h c.1.0, long_is))
 
   module _ (l : least_long ≤ n) where
-    pub long_past : end < p + (5 + n) → Cut ≡ text_in s p end
+    pub long_past : end < p + (5 + n) → None ≡ text_in s p end
     long_past = length_past s p end long_is (long_size n l)
 
-    pub long_held : p + (5 + n) ≤ end → end ≤ length s → Held (record { start = p + 5; len = n; next = p + (5 + n) }) ≡ text_in s p end
+    pub long_held : p + (5 + n) ≤ end → end ≤ length s → Some (record { start = p + 5; len = n; next = p + (5 + n) }) ≡ text_in s p end
     long_held = length_held s p end long_is (long_size n l) (long_fits s p h (omega (arith, long_is)))
 
 -- what a string that was read says of its place and its bytes
@@ -145,7 +144,7 @@ pub record Stands (s : List ℕ) (p end : ℕ) (t : Text) : Type 0 where
   pub room : end ≤ length s
   pub form : Holds (form_fits s p)
 
-pub stands : (s : List ℕ) (p end : ℕ) {t : Text} → Held t ≡ text_in s p end → Stands s p end t
+pub stands : (s : List ℕ) (p end : ℕ) {t : Text} → Some t ≡ text_in s p end → Stands s p end t
 unfolding text_at text_of text_size
 stands s p end {t} e =
     let f = from_held s p end e in
@@ -162,7 +161,7 @@ stands s p end {t} e =
     })
 
 -- no string is read where no byte is left
-pub none_left : (s : List ℕ) (p end : ℕ) → end ≤ p → Cut ≡ text_in s p end
+pub none_left : (s : List ℕ) (p end : ℕ) → end ≤ p → None ≡ text_in s p end
 unfolding text_at text_of
 none_left s p end l = is_cut s p end (λ h. omega (arith, h, size_least (length_at s p)))
 
@@ -202,12 +201,12 @@ module _ (s : List ℕ) (p end : ℕ) (t rest : List ℕ) (h : length t < 256 ^ 
       sym (drop-drop (prefix_size (length t)) p s) ∙ ap (drop (prefix_size (length t))) prefix_there
       ∙ drop_at (prefix_bytes (length t)) (t ++ rest) (prefix_size (length t)) (length_prefix (length t))
 
-  pub text_there : (Held (text_of p (length t)) ≡ text_in s p end) × (content_of s (text_of p (length t)) ≡ t)
+  pub text_there : (Some (text_of p (length t)) ≡ text_in s p end) × (content_of s (text_of p (length t)) ≡ t)
       × (drop (p + text_size (length t)) s ≡ rest)
   unfolding text_size text_at text_of content_of
   text_there =
       let l = length_there s p (length t) (t ++ rest) (omega (arith, f, r)) prefix_there h in (
-        ap (λ (n : ℕ). Held (text_of p n)) l.0 ∙ is_held s p end (rw (sym l.0) (r, (rw (sym l.0) at l.1, (f, tt)))),
+        ap (λ (n : ℕ). Some (text_of p n)) l.0 ∙ is_held s p end (rw (sym l.0) (r, (rw (sym l.0) at l.1, (f, tt)))),
         ap (take (length t)) content_there ∙ take_at t rest (length t) refl,
         rw (sym (add_assoc p (prefix_size (length t)) (length t)))
             (sym (drop-drop (length t) (p + prefix_size (length t)) s) ∙ ap (drop (length t)) content_there
@@ -262,11 +261,11 @@ module _ {s : List ℕ} {q end : ℕ} {t : Text} (h : Stands s q end t) where
   read_again b = rw h.is (text_again s q there b h.form)
 
 -- what is said where the string is cut, and of a string that is there
-module _ {A : Type 0} (bad : A) (f : Text → A) {x : Found} where
-  pub on_cut : x ≡ Cut → bad ≡ on_text bad f x
+module _ {A : Type 0} (bad : A) (f : Text → A) {x : Option Text} where
+  pub on_cut : x ≡ None → bad ≡ on_text bad f x
   unfolding on_text
   on_cut e = rw e
 
-  pub on_text_law : {t : Text} {v : A} → x ≡ Held t → v ≡ f t → v ≡ on_text bad f x
+  pub on_text_law : {t : Text} {v : A} → x ≡ Some t → v ≡ f t → v ≡ on_text bad f x
   unfolding on_text
   on_text_law e h = rw e h

@@ -10,7 +10,7 @@ done n = record { number = 0; place = 0; count = n }
 abbrev pub refusal : ℕ → ℕ → Answer
 refusal c p = record { number = c; place = p; count = 0 }
 
--- what a function that answers an enum promises: the case r is the definition's v, and number, place and count, which `answer` gives
+-- what a function that answers an Option or a Result promises: the case r is the definition's v, and number, place and count, which `answer` gives
 -- for each case, are those of v
 pub record Gives {A : Type 0} (answer : A → Answer) (r v : A) : Type 0 where
   pub is : r ≡ v

@@ -2,6 +2,7 @@ pub mod Agree
 pub mod Answer
 pub mod Check
 pub mod Equal
+pub mod Fault
 pub mod Layout
 pub mod Lent
 pub mod Name

@@ -4,8 +4,7 @@ use Rattle.std.specs.Prelude.{ℕ, ◌+◌, List, [], ◌∷◌, ◌++◌, ltb, 
 use Rattle.wire.specs.Check.{Check, le, eq, all, pick}
 use Rattle.wire.specs.Number.{num_at, be_bytes}
 use Rattle.wire.specs.declared.text.Text.{Text}
-use Rattle.wire.specs.declared.text.Found.{Found}
-use Rattle.wire.specs.declared.text.Found.TheVariants.{Held, Cut}
+use Rattle.std.specs.Prelude.{Option, Some, None}
 
 -- the least length that takes the long form, and the byte that opens it
 abbrev pub least_long : ℕ
@@ -43,8 +42,8 @@ text_at s p = text_of p (length_at s p)
 abbrev pub text_checks : List ℕ → ℕ → ℕ → List Check
 text_checks s p end = le end (length s) ∷ form_fits s p ∷ le (text_at s p).next end ∷ []
 
-unfoldable pub text_in : List ℕ → ℕ → ℕ → Found
-text_in s p end = pick (all (text_checks s p end)) (Held (text_at s p)) Cut
+unfoldable pub text_in : List ℕ → ℕ → ℕ → Option Text
+text_in s p end = pick (all (text_checks s p end)) (Some (text_at s p)) None
 
 -- the content of a string
 unfoldable pub content_of : List ℕ → Text → List ℕ
@@ -55,6 +54,6 @@ unfoldable pub text_bytes : List ℕ → List ℕ
 text_bytes t = prefix_bytes (length t) ++ t
 
 -- what is said of a string that is there, or bad where it is cut
-unfoldable pub on_text : {A : Type 0} → A → (Text → A) → Found → A
-on_text bad f (Held t) = f t
-on_text bad f Cut = bad
+unfoldable pub on_text : {A : Type 0} → A → (Text → A) → Option Text → A
+on_text bad f (Some t) = f t
+on_text bad f None = bad

@@ -3,8 +3,11 @@
 #![tactic(auto)]
 
 ghost use Rattle.std.specs.Prelude.{◌≡◌};
-ghost use Rattle.wire.specs.Answer.{done, refusal};
+ghost use Rattle.wire.specs.Fault.{answer_of};
 
+use fault::Fault;
+
+pub mod fault;
 pub mod number;
 pub mod text;
 
@@ -16,24 +19,22 @@ pub struct Answer {
     pub count: u64,
 }
 
-// A success: 0, 0 and a count.
-pub fn finished(count: u64) -> Answer
-    ensures { result ≡ done count }
-{
-    Answer {
-        number: 0,
-        place: 0,
-        count,
-    }
-}
+// What C is told of a count or a refusal.
+impl From<Result<usize, Fault>> for Answer {
+    ghost from_gives = { λ r a. a ≡ answer_of r };
 
-// A refusal: its number and place, with count 0.
-pub fn refused(number: u64, place: u64) -> Answer
-    ensures { result ≡ refusal number place }
-{
-    Answer {
-        number,
-        place,
-        count: 0,
+    fn from(r: Result<usize, Fault>) -> Answer {
+        match r {
+            Ok(count) => Answer {
+                number: 0,
+                place: 0,
+                count: count as u64,
+            },
+            Err(f) => Answer {
+                number: f.reason.number(),
+                place: f.place as u64,
+                count: f.reason.needed(),
+            },
+        }
     }
 }

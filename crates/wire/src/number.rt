@@ -1,13 +1,7 @@
 // Big-endian numbers, read at any place, and signed numbers of 16 bits.
-ghost use Rattle.std.specs.Prelude.{◌≡◌, ◌<◌, ◌≤◌, ◌+◌, ◌^◌, length};
+ghost use Rattle.std.specs.Prelude.{◌≡◌, ◌<◌, ◌≤◌, ◌+◌, ◌^◌, MatchOption};
 ghost use Rattle.wire.specs.Layout.{width_of};
-ghost use Rattle.wire.specs.Number.{num_at, Word, LittlePair, turned_pair, Little, turned_of, lesser, signed_of, bits16};
-
-fn wide(b: u8) -> u32
-    ensures { (result ≡ b) × (result ≤ 255) }
-{
-    b as u32
-}
+ghost use Rattle.wire.specs.Number.{num_at, be_value, lesser, signed_of, bits16};
 
 // The number of 1 byte at a place; 0 unless it is there.
 pub fn be8(s: &[u8], at: usize) -> u32
@@ -16,85 +10,50 @@ pub fn be8(s: &[u8], at: usize) -> u32
     if s.len() <= at {
         return 0;
     }
-    let byte = s[at];
-    wide(byte)
+    s[at] as u32
 }
 
-// The little-endian number of 2 bytes that are there: the compiler makes one load of it.
-fn little_pair(s: &[u8], at: usize) -> u32
-    requires { at + 2 ≤ length s.now }
-    ensures { LittlePair s.now at result }
+// The N bytes at a place, if all of them are there.
+fn bytes_at<const N: usize>(s: &[u8], at: usize) -> Option<&[u8; N]>
+    ensures { MatchOption result (num_at N s.now at ≡ 0) (λ b. num_at N s.now at ≡ be_value N b.now 0) }
 {
-    wide(s[at]) + wide(s[at + 1]) * 256
-}
-
-// The number of the same 2 bytes the other way round.
-fn turned_pair(x: u32) -> u32
-    ensures { result ≡ turned_pair x }
-{
-    x % 256 * 256 + x / 256
+    if s.len() < N || s.len() - N < at {
+        return None;
+    }
+    s[at..at + N].first_chunk()
 }
 
 // The number of 2 bytes at a place; 0 unless both are there.
+#[tactic(auto, using(crate::proofs::Numbers::value2))]
 pub fn be16(s: &[u8], at: usize) -> u32
     ensures { (result ≡ num_at 2 s.now at) × (result < 65536) }
 {
-    if s.len() < 2 {
-        return 0;
+    match bytes_at::<2>(s, at) {
+        Some(pair) => u16::from_be_bytes(*pair) as u32,
+        None => 0,
     }
-    if s.len() - 2 < at {
-        return 0;
-    }
-    turned_pair(little_pair(s, at))
-}
-
-// The little-endian number of 4 bytes that are there: the compiler makes one load of it.
-fn little(s: &[u8], at: usize) -> u32
-    requires { at + 4 ≤ length s.now }
-    ensures { Little s.now at result }
-{
-    wide(s[at]) + wide(s[at + 1]) * 256 + wide(s[at + 2]) * 65536 + wide(s[at + 3]) * 16777216
-}
-
-// The number of the same 4 bytes the other way round: the compiler makes one instruction of it.
-fn turned(x: u32) -> u32
-    ensures { result ≡ turned_of x }
-{
-    x % 256 * 16777216 + x / 256 % 256 * 65536 + x / 65536 % 256 * 256 + x / 16777216
-}
-
-// The number of 4 bytes that are there.
-pub(crate) fn word(s: &[u8], at: usize) -> u32
-    requires { at + 4 ≤ length s.now }
-    ensures { Word s.now at result }
-{
-    turned(little(s, at))
 }
 
 // The number of 4 bytes at a place; 0 unless all are there.
+#[tactic(auto, using(crate::proofs::Numbers::value4))]
 pub fn be32(s: &[u8], at: usize) -> u32
     ensures { result ≡ num_at 4 s.now at }
 {
-    if s.len() < 4 {
-        return 0;
+    match bytes_at::<4>(s, at) {
+        Some(four) => u32::from_be_bytes(*four),
+        None => 0,
     }
-    if s.len() - 4 < at {
-        return 0;
-    }
-    word(s, at)
 }
 
 // The number of 8 bytes at a place; 0 unless all are there.
+#[tactic(auto, using(crate::proofs::Numbers::value8))]
 pub fn be64(s: &[u8], at: usize) -> u64
     ensures { result ≡ num_at 8 s.now at }
 {
-    if s.len() < 8 {
-        return 0;
+    match bytes_at::<8>(s, at) {
+        Some(eight) => u64::from_be_bytes(*eight),
+        None => 0,
     }
-    if s.len() - 8 < at {
-        return 0;
-    }
-    word(s, at) as u64 * 4294967296 + word(s, at + 4) as u64
 }
 
 // The bytes of an offset: eight in the wide form, else four.
@@ -127,17 +86,14 @@ pub fn be_offset(s: &[u8], at: usize, wide: bool) -> u64
     be32(s, at) as u64
 }
 
-// The lesser of two numbers.
+// The lesser of two numbers, as the definitions say it.
 pub fn least(a: usize, b: usize) -> usize
     ensures { result ≡ lesser a b }
 {
-    if a <= b {
-        return a;
-    }
-    b
+    a.min(b)
 }
 
-// The signed value of 16 bits.
+// The signed value of 16 bits. No conversion of std has this promise: `as` may lose nothing.
 #[tactic(auto, using(crate::proofs::Signs::low, crate::proofs::Signs::high))]
 pub fn signed16(raw: u16) -> i32
     ensures { result ≡ signed_of 2 raw }
@@ -148,26 +104,19 @@ pub fn signed16(raw: u16) -> i32
     raw as i32 - 65536
 }
 
-// A signed number as 16 bits, where they hold it.
-#[derive(Clone, Copy)]
-pub enum Bits {
-    Held(u32),
-    Wide,
-}
-
-// The 16 bits of a signed number, or that they do not hold it.
+// The 16 bits of a signed number, if they hold it.
 #[tactic(auto, using(crate::proofs::Signs::too_low, crate::proofs::Signs::too_high, crate::proofs::Signs::sum_is, crate::proofs::Signs::below, crate::proofs::Signs::over_is, crate::proofs::Signs::above))]
-pub fn bits_of(z: i32) -> Bits
+pub fn bits_of(z: i32) -> Option<u32>
     ensures { result ≡ bits16 z }
 {
     if z < -32768 {
-        return Bits::Wide;
+        return None;
     }
     if 32767 < z {
-        return Bits::Wide;
+        return None;
     }
     if z < 0 {
-        return Bits::Held((z + 65536) as u32);
+        return Some((z + 65536) as u32);
     }
-    Bits::Held(z as u32)
+    Some(z as u32)
 }

@@ -4,7 +4,7 @@ ghost use Rattle.wire.specs.Equal.{eq_bytes};
 ghost use Rattle.wire.specs.Number.{num_at};
 ghost use Rattle.wire.specs.Text.{least_long, prefix_size, text_in};
 
-use crate::number::{be8, be32, word};
+use crate::number::{be8, be32};
 
 // The least length that takes the long form, and the byte that opens it.
 pub const LEAST_LONG: usize = 255;
@@ -20,12 +20,6 @@ pub struct Text {
     pub next: usize,
 }
 
-#[derive(Clone, Copy)]
-pub enum Found {
-    Held(Text),
-    Cut,
-}
-
 // The bytes before those of a string of n bytes: 1, or 5 from 255 on.
 #[tactic(auto, using(crate::proofs::Texts::short_size, crate::proofs::Texts::long_size))]
 pub fn prefix_size(n: usize) -> usize
@@ -38,43 +32,43 @@ pub fn prefix_size(n: usize) -> usize
 }
 
 // The string in the long form at a place, if its length takes that form and it ends at or before end.
-fn long_text(s: &[u8], at: usize, end: usize) -> Found
+fn long_text(s: &[u8], at: usize, end: usize) -> Option<Text>
     requires { (least_long ≤ num_at 1 s.now at) × (at < end) × (end ≤ length s.now) }
     ensures { result ≡ text_in s.now at end }
 {
     let len = be32(s, at + 1) as usize;
     if len < LEAST_LONG {
-        return Found::Cut;
+        return None;
     }
     let size = LONG_PREFIX + len;
     if end - at < size {
-        return Found::Cut;
+        return None;
     }
-    Found::Held(Text {
+    Some(Text {
         start: at + LONG_PREFIX,
         len,
         next: at + size,
     })
 }
 
-// The string that begins at a place, if it has the form of its length and ends at or before end; cut too where end is past the slice.
-pub fn read_text(s: &[u8], at: usize, end: usize) -> Found
+// The string that begins at a place, if it has the form of its length and ends at or before end; none where end is past the slice.
+pub fn read_text(s: &[u8], at: usize, end: usize) -> Option<Text>
     ensures { result ≡ text_in s.now at end }
 {
     if s.len() < end {
-        return Found::Cut;
+        return None;
     }
     if end <= at {
-        return Found::Cut;
+        return None;
     }
     let len = be8(s, at) as usize;
     if LEAST_LONG <= len {
         return long_text(s, at, end);
     }
     if end - at <= len {
-        return Found::Cut;
+        return None;
     }
-    Found::Held(Text {
+    Some(Text {
         start: at + 1,
         len,
         next: at + (1 + len),
@@ -82,25 +76,9 @@ pub fn read_text(s: &[u8], at: usize, end: usize) -> Found
 }
 
 // Whether two slices hold the same bytes.
+#[tactic(auto, using(crate::proofs::Equal::pointwise_bytes))]
 pub fn same(a: &[u8], b: &[u8]) -> bool
     ensures { result ≡ eq_bytes a.now b.now }
 {
-    if a.len() != b.len() {
-        return false;
-    }
-    let mut i: usize = 0;
-    while i < a.len() {
-        if a.len() - i < 4 {
-            if a[i] != b[i] {
-                return false;
-            }
-            i += 1;
-        } else {
-            if word(a, i) != word(b, i) {
-                return false;
-            }
-            i += 4;
-        }
-    }
-    true
+    a == b
 }

@@ -2,15 +2,19 @@
 #![tactic(auto)]
 
 ghost use Rattle.std.specs.Prelude.{◌≡◌, ◌+◌, ◌≤◌, length};
+ghost use Rattle.wire.specs.Fault.{fault, answer_of};
+ghost use Rattle.wire.specs.Layout.{offset_width, value_bytes};
 ghost use Rattle.wire.specs.Number.{bits_of};
 ghost use Rattle.wire.specs.Patch.{patch};
 ghost use Rattle.wire.specs.Text.{text_size};
-ghost use Rattle.key.specs.Writer.{name_bytes, header_bytes, sum_bytes, Writes};
+ghost use Rattle.key.specs.Header.{key_layout, fixed_part};
+ghost use Rattle.key.specs.Writer.{name_bytes, numbers_of, Writes};
+ghost use Rattle.writer.specs.Tested.{tested};
 
 use crate::store::{put_text, put_values};
 use key::header::{Fields, MOST_KEYLEN, fixed_part, is_formed, sum_for};
-use wire::number::{Bits, bits_of, greatest, width};
-use wire::{Answer, finished, refused};
+use wire::fault::{Fault, Reason};
+use wire::number::{bits_of, greatest, width};
 
 mod store;
 
@@ -24,71 +28,65 @@ fn put_names(part: &mut [u8], class: &[u8], name: &[u8], title: &[u8])
     put_text(&mut part[third..], title);
 }
 
-// Writes a header at the front of a part: the numbers, then the strings.
-fn put_header(
-    part: &mut [u8],
-    f: Fields,
-    keylen: usize,
-    cycle: u32,
-    class: &[u8],
-    name: &[u8],
-    title: &[u8],
-)
-    requires { (cycle ≡ bits_of 2 f.cycle)
-        × (keylen ≡ sum_bytes f.version class.now name.now title.now) × (keylen ≤ length part.old) }
-    ensures { part.new ≡ patch part.old 0 (header_bytes f class.now name.now title.now) }
+// Writes the numbers of a header at the front of a part.
+fn put_numbers(part: &mut [u8], f: Fields, keylen: usize, cycle: u32)
+    requires { (cycle ≡ bits_of 2 f.cycle) × (fixed_part (offset_width f.version) ≤ length part.old) }
+    ensures { part.new ≡ patch part.old 0 (value_bytes (key_layout (offset_width f.version)) (numbers_of f keylen)) }
 {
     let version = f.version;
     let w = width(1000 < version);
-    let widths: [usize; 8] = [4, 2, 4, 4, 2, 2, w, w];
-    let values: [u64; 8] = [
-        f.nbytes as u64,
-        version as u64,
-        f.objlen as u64,
-        f.datime as u64,
-        keylen as u64,
-        cycle as u64,
-        f.seekkey,
-        f.seekpdir,
+    let numbers: [(usize, u64); 8] = [
+        (4, f.nbytes as u64),
+        (2, version as u64),
+        (4, f.objlen as u64),
+        (4, f.datime as u64),
+        (2, keylen as u64),
+        (2, cycle as u64),
+        (w, f.seekkey),
+        (w, f.seekpdir),
     ];
-    put_values(&mut *part, &widths, &values);
-    let fixed = fixed_part(version);
-    put_names(&mut part[fixed..], class, name, title);
+    put_values(part, &numbers);
 }
 
-// Writes a header at the place SeekKey of a buffer and nothing else; the reader finds there what was written. Refused with the buffer
-// unchanged: 15 for a sum above 32,767, 16 for a header that is not well formed or a value that does not fit its field, 17 for a record
-// that the buffer cannot hold.
-pub fn write_key(f: Fields, class: &[u8], name: &[u8], title: &[u8], buf: &mut [u8]) -> Answer
-    ensures { Writes f class.now name.now title.now buf.old buf.new result }
+// The two bytes of Cycle, where a header with these fields and this sum is written into a buffer of so many bytes; else why it is not.
+#[tactic(auto, using(crate::proofs::Tested::too_long, crate::proofs::Tested::wide_cycle, crate::proofs::Tested::wide_key, crate::proofs::Tested::wide_dir, crate::proofs::Tested::not_formed, crate::proofs::Tested::past_room))]
+fn check_fields(f: Fields, sum: usize, room: usize) -> Result<u32, Fault>
+    ensures { result ≡ tested f sum room }
 {
-    let version = f.version;
-    let sum = sum_for(version, class.len(), name.len(), title.len());
     if MOST_KEYLEN < sum {
-        return refused(15, 0);
+        return Err(Reason::Name.at(0));
     }
-    let Bits::Held(cycle) = bits_of(f.cycle) else {
-        return refused(16, 0);
-    };
-    let nbytes = f.nbytes;
-    let seekkey = f.seekkey;
-    let most = greatest(1000 < version);
-    if most < seekkey {
-        return refused(16, 0);
+    let cycle = bits_of(f.cycle).ok_or(Reason::Field.at(0))?;
+    let most = greatest(1000 < f.version);
+    let formed = is_formed(f.nbytes, f.version, f.objlen, sum as u32, sum);
+    if most < f.seekkey || most < f.seekpdir || !formed {
+        return Err(Reason::Field.at(0));
     }
-    if most < f.seekpdir {
-        return refused(16, 0);
+    let nbytes = f.nbytes as usize;
+    if room < nbytes || room - nbytes < f.seekkey as usize {
+        return Err(Reason::Room.at(0));
     }
-    if !is_formed(nbytes, version, f.objlen, sum as u32, sum) {
-        return refused(16, 0);
-    }
-    if buf.len() < nbytes as usize {
-        return refused(17, 0);
-    }
-    let at = seekkey as usize;
-    if buf.len() - (nbytes as usize) < at {
-        return refused(17, 0);
-    }
-    put_header(&mut buf[at..], f, sum, cycle, class, name, title);
-    finished(sum as u64)
+    Ok(cycle)
+}
+
+// Writes a header at the place SeekKey of a buffer and nothing else, and answers KeyLen; the reader finds there what was written.
+// Refused with the buffer unchanged: Name for a sum above 32,767, Field for a header that is not well formed or a value that does not
+// fit its field, Room for a record that the buffer cannot hold.
+#[tactic(auto, using(crate::proofs::Tested::room_told))]
+pub fn write_key(
+    f: Fields,
+    class: &[u8],
+    name: &[u8],
+    title: &[u8],
+    buf: &mut [u8],
+) -> Result<usize, Fault>
+    ensures { Writes f class.now name.now title.now buf.old buf.new (answer_of result) }
+{
+    let sum = sum_for(f.version, class.len(), name.len(), title.len());
+    let cycle = check_fields(f, sum, buf.len())?;
+    let part = &mut buf[f.seekkey as usize..];
+    put_numbers(&mut *part, f, sum, cycle);
+    let fixed = fixed_part(f.version);
+    put_names(&mut part[fixed..], class, name, title);
+    Ok(sum)
 }

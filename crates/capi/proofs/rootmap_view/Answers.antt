@@ -4,8 +4,9 @@ use Rattle.capi.proofs.rootmap_view.Goals as goal
 -- what the audit said of the slices that it was lent again holds of those that were lent here
 pub returns : goal.returns
 returns c =
-    let k = c.audit_limited-number.ensures in
-    views
+    let k = c.audit_within-seen.ensures in
+    rw c.tell.ensures
+    (views
     (record {
       number = k.number;
       place = k.place;
@@ -15,4 +16,4 @@ returns c =
       owners = k.owners;
       demand = k.demand;
     })
-    c.show.ensures
+    c.show.ensures)

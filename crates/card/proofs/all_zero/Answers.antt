@@ -1,12 +1,12 @@
-use native.Mathlib.Omega.{arith}
-use Rattle.card.proofs.Loops.{test_turn, test_failed, test_ended}
+use mathlib.Core.Path.{◌≡◌}
+use borrow.Author.Tests.{tests}
+use Rattle.std.proofs.Common.{rules}
+use Rattle.std.proofs.lemmas.Iterator.{cases_from_all, YieldsList-from_slice}
+use Rattle.card.proofs.Loops.{zeros_tested}
 use Rattle.card.proofs.all_zero.Goals as goal
 
-pub returns-then-s-at-ne0 : goal.returns-then-s-at-ne0
-returns-then-s-at-ne0 c = test_failed c.loop-at.invariant (omega arith) (λ e. omega arith)
-
-pub loop-at-preserved : goal.loop-at-preserved
-loop-at-preserved c = test_turn c.loop-at.invariant (omega arith) (omega arith)
-
 pub returns : goal.returns
-returns c = test_ended c.loop-at.invariant (omega arith)
+returns c =
+    zeros_tested c.args.s.now _
+    (cases_from_all _ _ _ (λ x. x ≡ 0) (λ x. x ≡ 0 → ⊥) c.all.ensures.ran (YieldsList-from_slice c.args.s.now cc)
+    (λ x q k. search (rules, tests)) (λ x q k. search (rules, tests)))

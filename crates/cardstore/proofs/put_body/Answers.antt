@@ -5,4 +5,4 @@ use Rattle.cardstore.proofs.put_body.Goals as goal
 
 pub returns : goal.returns
 returns c =
-    body_whole _ _ _ (omega arith) (omega arith) c.put32.ensures c.copy.ensures refl refl c.clear_bytes.ensures
+    body_whole _ _ _ (omega arith) (omega arith) c.put32.ensures c.copy.ensures refl refl c.clear.ensures

@@ -1,7 +1,7 @@
 use native.Mathlib.Omega.{arith}
 use mathlib.Core.Path.{sym, ◌∙◌}
 use Rattle.keylist.proofs.Records.{list_lies}
-use Rattle.copies.proofs.Copies.{Sought, sought, no_row, no_keys_law, keys_nowhere, keys_bad, keys_held}
+use Rattle.copies.proofs.Copies.{sought, no_row, no_keys_law, keys_nowhere, keys_bad, keys_held}
 use Rattle.copies.proofs.find_list.Goals as goal
 
 pub returns-then-is_nothing : goal.returns-then-is_nothing
@@ -14,15 +14,14 @@ returns-in_default c =
 
 pub returns-in_default-read_list : goal.returns-in_default-read_list
 returns-in_default-read_list c =
-    let row : Sought c.args.start.now c.args.head.seekkeys c.in-At.row = sought _ _ _ c.find_row.ensures c.in-At.is in
-    keys_bad _ _ _ _ c.is_nothing.ensures c.if-is_nothing.false (row)
+    keys_bad _ _ _ _ c.is_nothing.ensures c.if-is_nothing.false (sought _ _ _ c.find_row.ensures c.in-Some.is)
     (sym c.in_default-read_list.is ∙ c.read_list.ensures.is)
 
-pub overflow_add-next : goal.overflow_add-next
-overflow_add-next c =
-    omega (arith, list_lies _ _ _ _ (sym c.in-Held.is ∙ c.read_list.ensures.is), c)
+pub overflow_add-claim : goal.overflow_add-claim
+overflow_add-claim c =
+    omega (arith, list_lies _ _ _ _ (sym c.in-Some-read_list.is ∙ c.read_list.ensures.is), c)
 
 pub returns : goal.returns
 returns c =
-    let row : Sought c.args.start.now c.args.head.seekkeys c.in-At.row = sought _ _ _ c.find_row.ensures c.in-At.is in
-    keys_held _ _ _ _ c.is_nothing.ensures c.if-is_nothing.false (row) (sym c.in-Held.is ∙ c.read_list.ensures.is)
+    keys_held _ _ _ _ c.is_nothing.ensures c.if-is_nothing.false (sought _ _ _ c.find_row.ensures c.in-Some.is)
+    (sym c.in-Some-read_list.is ∙ c.read_list.ensures.is)

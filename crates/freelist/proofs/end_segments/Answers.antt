@@ -1,18 +1,17 @@
+use Prim.Native.Nat.{◌+◌, ◌-◌}
 use native.Mathlib.Omega.{arith}
-use mathlib.Core.Path.{sym, ◌∙◌}
-use Rattle.freelist.proofs.Segments.{next_passed, next_bad, nothing_left, last_left}
+use mathlib.Core.Path.{◌≡◌, sym, ◌∙◌}
+use Rattle.freelist.proofs.Segments.{next_passed, next_bad, last_left}
 use Rattle.freelist.proofs.end_segments.Goals as goal
 
 pub returns-in_default : goal.returns-in_default
 returns-in_default c =
-    next_bad c.loop-left.invariant (sym c.in_default.is ∙ c.read_segment.ensures) (omega arith)
+    next_bad c.loop-i.invariant (sym c.in_default.is ∙ c.read_segment.ensures) (omega arith)
 
-pub loop-left-preserved : goal.loop-left-preserved
-loop-left-preserved c =
-    next_passed c.loop-left.invariant (sym c.in-Held.is ∙ c.read_segment.ensures) (omega arith)
-
-pub returns-then-left-eq0 : goal.returns-then-left-eq0
-returns-then-left-eq0 c = nothing_left c.loop-left.invariant (omega arith)
+pub loop-i-preserved : goal.loop-i-preserved
+loop-i-preserved c =
+    let e : c.args.count + 1 - (c.loop-i._i + 1) ≡ c.args.count + 1 - c.loop-i._i - 1 = omega arith in
+    rw e (next_passed c.loop-i.invariant (sym c.in-Some.is ∙ c.read_segment.ensures) (omega arith))
 
 pub returns : goal.returns
-returns c = last_left c.loop-left.invariant (omega arith) c.is_final.ensures
+returns c = last_left c.loop-i.invariant (omega arith) c.is_final.ensures

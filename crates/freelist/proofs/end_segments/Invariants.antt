@@ -1,8 +1,6 @@
+use Prim.Native.Nat.{◌+◌, ◌-◌}
 use Rattle.freelist.proofs.Segments.{Passing}
 use Rattle.freelist.proofs.end_segments.Given as goal
 
-abbrev pub invariant-loop-left : goal.invariant-loop-left
-invariant-loop-left l = Passing l.wide l.file l.end l.count l.from l.at l.left
-
-abbrev pub decreases-loop-left : goal.decreases-loop-left
-decreases-loop-left l = l.left
+abbrev pub invariant-loop-i : goal.invariant-loop-i
+invariant-loop-i l = Passing l.wide l.file l.end l.count l.from l.at (l.count + 1 - l._i)

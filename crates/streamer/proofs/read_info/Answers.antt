@@ -1,26 +1,21 @@
-use Rattle.streamer.proofs.Looks.{informs}
-use Rattle.streamer.proofs.Runs.{answer_rows, answer_many, answer_stop}
-use Rattle.streamer.specs.Info.{info_answer, info_table}
-use mathlib.Core.Path.{◌∙◌}
 use native.Mathlib.Omega.{arith}
 use lib.ListN.{length}
+use Rattle.streamer.specs.Info.{info_answer, info_table}
+use Rattle.streamer.proofs.Looks.{informs}
+use Rattle.streamer.proofs.Runs.{answer_rows, answer_many, answer_stop}
 use Rattle.streamer.proofs.read_info.Goals as goal
 
-pub returns-then-table-rows : goal.returns-then-table-rows
+pub returns-then-rows-table : goal.returns-then-rows-table
 unfolding info_answer info_table
-returns-then-table-rows c =
-    informs (answer_many _ _ _ _ c.read_record.ensures {k = length c.read_record.new.table} c.clear32-then-table-rows.ensures
-    (omega arith) c.in-Next.is (omega arith))
+returns-then-rows-table c =
+    informs (answer_rows (length c.args.table.now) _ _ _ c.read_record.ensures c.clear.ensures c.in-Ok.is (omega arith))
 
-pub returns-else-table-rows : goal.returns-else-table-rows
+pub returns-else-rows-table : goal.returns-else-rows-table
 unfolding info_answer info_table
-returns-else-table-rows c =
-    let y = answer_rows (length c.args.table.now) _ _ _ c.read_record.ensures c.clear32.ensures c.in-Next.is (omega arith) in
-    informs (c.finished.ensures ∙ y.0, y.1)
+returns-else-rows-table c =
+    informs (answer_many (length c.args.table.now) _ _ _ c.read_record.ensures {m = length c.read_record.new.table} c.clear-in-Ok.ensures (omega arith) c.in-Ok.is (omega arith))
 
-pub returns-in-Wrong : goal.returns-in-Wrong
+pub returns-in-Err : goal.returns-in-Err
 unfolding info_answer info_table
-returns-in-Wrong c =
-    let y = answer_stop (length c.args.table.now) _ _ _ c.read_record.ensures {k = length c.read_record.new.table}
-    c.clear32-in-Wrong.ensures (omega arith) c.in-Wrong.is in
-    informs (c.refused.ensures ∙ y.0, y.1)
+returns-in-Err c =
+    informs (answer_stop (length c.args.table.now) _ _ _ c.read_record.ensures {m = length c.read_record.new.table} c.clear-in-Err.ensures (omega arith) c.in-Err.is)

@@ -1,10 +1,6 @@
-use Prim.Native.Nat.{◌-◌}
-use lib.ListN.{length}
-use Rattle.table.proofs.Tables.{Clearing}
+use Rattle.std.proofs.Common.{◌≡◌, take}
+use lib.ListN.{replicate}
 use Rattle.table.proofs.clear.Given as goal
 
-abbrev pub invariant-loop-i : goal.invariant-loop-i
-invariant-loop-i l = Clearing l.initial.table l.table l.from l.i
-
-abbrev pub decreases-loop-i : goal.decreases-loop-i
-decreases-loop-i l = length l.initial.table - l.i
+abbrev pub invariant-loop-number : goal.invariant-loop-number
+invariant-loop-number g l = take l.number-index l.number-items ≡ replicate l.number-index g.T.Number.ZERO

@@ -11,9 +11,10 @@ use std::io;
 
 const HEAD: &str = "# Contracts
 
-Made by `host/run-docs`: each public function with the definitions that its `ensures` cites, in brackets, and the
-comment above it, then what the edits in `crates/NAME/must-fail` break, each of which is refused. No public function has
-a `requires`: each promise is for every input. The parameters of the C functions stand in `include/rootmap.h`.
+Made by `host/run-docs`: each public function with the definitions that its `ensures` cites (for one of a trait, its
+member `ghost NAME_gives`), in brackets, and the comment above it, then what the edits in `crates/NAME/must-fail` break,
+each of which is refused. No public function has a `requires`: each promise is for every input. The parameters of the C
+functions stand in `include/rootmap.h`.
 
 A definition is named by its file in `crates/NAME/specs`, with the crate before it where that is another. `held`,
 `before`, `after` (a slice, at the call, at the return), `all` (of a list of tests), `Gives` (an enum's case, and its
@@ -159,16 +160,19 @@ fn public_over<'a>(of: &'a Crate, mut open: Vec<(&'a Source, &'a Function)>) -> 
 }
 
 /// Whether a function calls another of its crate: by its name in the module that has it, by its path in others, or as
-/// taken by `use`.
+/// taken by `use`; a method behind a dot, or behind its type.
 fn calls(from: &Source, caller: &Function, at: &Source, called: &Function) -> bool {
+    if !called.of.is_empty() {
+        let calls = [format!(".{}(", called.name), format!("{}::{}(", called.of, called.name)];
+        return calls.iter().any(|call| caller.text.contains(call));
+    }
     let path = at.path(called);
     let is_taken = from.imports.iter().any(|import| import.strip_prefix("crate::").unwrap_or(import) == path);
     let name = if from.module == at.module || is_taken { called.name.clone() } else { path };
-    let is_whole = |&(place, _): &(usize, &str)| {
-        let before = caller.text[..place].chars().next_back();
-        before.is_some_and(|c| !c.is_alphanumeric() && !"_.:".contains(c))
+    let is_call = |(place, _)| {
+        let (before, rest) = (&caller.text[..place], &caller.text[place + name.len()..]);
+        let is_whole = before.ends_with(|c: char| !c.is_alphanumeric() && !"_.:".contains(c));
+        is_whole && !before.ends_with("fn ") && ["(", "::<"].iter().any(|open| rest.starts_with(open))
     };
-    let call = format!("{name}(");
-    let mut found = caller.text.match_indices(&call).filter(is_whole);
-    found.any(|(place, _)| !caller.text[..place].ends_with("fn "))
+    caller.text.match_indices(&name).any(is_call)
 }

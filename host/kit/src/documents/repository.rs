@@ -2,7 +2,7 @@
 
 use super::edit::Edit;
 use super::source::Source;
-use super::theory::{Definition, Taken, Theory, Use};
+use super::theory::{sign, Definition, Taken, Theory, Use};
 use super::{edit, source, text, theory};
 use std::io;
 use std::path::Path;
@@ -63,7 +63,7 @@ impl Repository {
         let parts: Vec<&str> = word.split('.').collect();
         let in_use = |one: &Use| match &one.names {
             Taken::These(names) => {
-                let names = parts.iter().filter(|part| names.iter().any(|name| name == *part));
+                let names = parts.iter().filter(|part| names.iter().any(|name| sign(name) == **part));
                 names.filter_map(|name| self.definition(&one.of, &one.file, name)).collect::<Vec<_>>()
             }
             Taken::As(prefix) if parts[0] == prefix => {

@@ -1,5 +1,5 @@
-//! Functions and their promises. `rt fmt` lays the text out: a function begins at the margin and ends with a brace
-//! there.
+//! Functions and their promises. `rt fmt` lays the text out: a function begins at the margin, or a step from it in an
+//! `impl` block, and ends with a brace below its beginning.
 
 use super::theory::{taken, Use};
 use super::{listed, stem, text};
@@ -19,11 +19,14 @@ pub struct Source {
 
 pub struct Function {
     pub name: String,
+    /// The type whose method it is; empty for none.
+    pub of: String,
+    /// That of a trait is, too.
     pub is_public: bool,
     /// Whether C calls it.
     pub is_c: bool,
     pub parameters: Vec<String>,
-    /// What stands above it.
+    /// What stands above it; for one of a trait else above its block.
     pub comment: String,
     pub requires: Option<String>,
     pub ensures: Option<String>,
@@ -44,7 +47,7 @@ pub fn read(folder: &Path) -> io::Result<Vec<Source>> {
 
 fn parse(module: String, text: &str) -> Source {
     let lines: Vec<&str> = text.lines().collect();
-    let starts = (0..lines.len()).filter(|&i| head(lines[i]).is_some());
+    let starts = (0..lines.len()).filter(|&i| head(lines[i].trim_start()).is_some());
     Source {
         module,
         uses: lines.iter().filter_map(|line| taken(line)).collect(),
@@ -85,43 +88,73 @@ fn head(line: &str) -> Option<(bool, &str)> {
     None
 }
 
+/// What stands in an `impl` block above a function, with the line that opens it.
+fn block<'a, 'b>(lines: &'a [&'b str], start: usize) -> Option<&'a [&'b str]> {
+    let open = lines[..start].iter().rposition(|line| line.starts_with("impl"))?;
+    let above = &lines[open..start];
+    (lines[start].starts_with(' ') && !above.contains(&"}")).then_some(above)
+}
+
+/// The type of a block that opens with this line, and whether it is of a trait: `impl Type {`, `impl Trait for Type {`.
+fn implemented(line: &str) -> Option<(&str, bool)> {
+    let of = line.split_once(" for ");
+    let (_, rest) = of.or(line.split_once(' '))?;
+    Some((rest.split(['<', ' ']).next()?, of.is_some()))
+}
+
 fn function(lines: &[&str], start: usize) -> Function {
-    let (is_public, rest) = head(lines[start]).unwrap_or_default();
-    let length = lines[start..].iter().position(|&line| line == "}").map_or(lines.len() - start, |i| i + 1);
+    let line = lines[start].trim_start();
+    let (is_public, rest) = head(line).unwrap_or_default();
+    let name = rest.split(['(', '<']).next().unwrap_or_default();
+    let block = block(lines, start).unwrap_or_default();
+    let (of, is_of_trait) = block.first().and_then(|line| implemented(line)).unwrap_or_default();
+    let end = lines[start].replace(line, "}");
+    let length = lines[start..].iter().position(|&line| line == end).map_or(lines.len() - start, |i| i + 1);
     let all = &lines[start..start + length];
     let is_body = |line: &&str| line.ends_with('{') && keyword(line).is_none();
     let contract = &all[..all.iter().position(is_body).unwrap_or(all.len())];
     let text = all.join("\n");
+    let mut said = comment(&lines[..start]);
+    if said.is_empty() && is_of_trait {
+        said = comment(&lines[..start - block.len()]);
+    }
     let parameters = text.split_once('(').and_then(|(_, rest)| rest.split_once(')')).map_or("", |(inside, _)| inside);
     Function {
-        name: rest.split(['(', '<']).next().unwrap_or_default().to_owned(),
-        is_public,
-        is_c: lines[start].contains("extern \"C\""),
-        parameters: parameters.split(',').filter_map(|one| Some(one.split_once(':')?.0.trim().to_owned())).collect(),
-        comment: comment(&lines[..start]),
+        name: name.to_owned(),
+        of: of.to_owned(),
+        is_public: is_public || is_of_trait,
+        is_c: line.contains("extern \"C\""),
+        parameters: parameters.split(',').filter_map(|one| parameter(one.trim())).map(str::to_owned).collect(),
+        comment: said,
         requires: clauses(contract, "requires"),
-        ensures: clauses(contract, "ensures"),
+        ensures: clauses(contract, "ensures").or_else(|| given(block, name)),
         text,
     }
+}
+
+/// The name of a parameter, `self` too.
+fn parameter(one: &str) -> Option<&str> {
+    one.split_once(':').map(|(name, _)| name).or(one.ends_with("self").then_some("self"))
 }
 
 /// The comment that ends the lines, whatever attributes stand below it; one of these may have several lines.
 fn comment(above: &[&str]) -> String {
     let mut end = above.len();
-    while let Some(start) = above[..end].iter().rposition(|line| line.starts_with("#[")) {
+    while let Some(start) = above[..end].iter().rposition(|line| line.trim_start().starts_with("#[")) {
         if !above[start..end].last().is_some_and(|line| line.ends_with(']')) || above[start..end].contains(&"") {
             break;
         }
         end = start;
     }
-    let mut lines: Vec<&str> = above[..end].iter().rev().map_while(|line| line.strip_prefix("// ")).collect();
+    let mut lines: Vec<&str> =
+        above[..end].iter().rev().map_while(|line| line.trim_start().strip_prefix("// ")).collect();
     lines.reverse();
     lines.join(" ")
 }
 
 /// The word with which a clause begins in this line, whatever its name: `ensures { .. }`, `ensures low { .. }`.
 fn keyword(line: &str) -> Option<&'static str> {
-    let rest = line.strip_prefix("    ")?;
+    let rest = line.trim_start();
     let is_first = |word: &&str| rest.strip_prefix(word).is_some_and(|rest| rest.starts_with([' ', '*']));
     ["requires", "ensures", "ghost"].into_iter().find(is_first)
 }
@@ -139,6 +172,13 @@ fn clauses(contract: &[&str], wanted: &str) -> Option<String> {
     (!lines.is_empty()).then(|| lines.join("\n"))
 }
 
+/// What a trait's function promises in a block: its member `ghost NAME_gives = { .. };`.
+fn given(block: &[&str], name: &str) -> Option<String> {
+    let start = block.iter().position(|line| line.trim_start().starts_with(&format!("ghost {name}_gives ")))?;
+    let end = block[start..].iter().position(|line| line.ends_with(';'))?;
+    Some(block[start..=start + end].join("\n"))
+}
+
 impl Source {
     /// The functions that a change of this text concerns: the one that has it, or those of the module that use the
     /// constant that has it.
@@ -154,9 +194,7 @@ impl Source {
 
     /// The function as it is called from outside the crate.
     pub fn path(&self, function: &Function) -> String {
-        match self.module.as_str() {
-            "" => function.name.clone(),
-            module => format!("{module}::{}", function.name),
-        }
+        let parts = [&self.module, &function.of, &function.name].map(String::as_str);
+        parts.into_iter().filter(|part| !part.is_empty()).collect::<Vec<_>>().join("::")
     }
 }

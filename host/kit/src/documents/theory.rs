@@ -37,9 +37,9 @@ pub enum Taken {
 }
 
 impl Definition {
-    /// Whether it is meant by a name that stands alone.
+    /// Whether it is meant by a name that stands alone, or by an operator's sign.
     pub fn is_called(&self, name: &str) -> bool {
-        self.name == name || self.constructors.iter().any(|one| one == name)
+        sign(&self.name) == sign(name) || self.constructors.iter().any(|one| one == name)
     }
 
     pub fn has(&self, name: &str) -> bool {
@@ -60,6 +60,9 @@ pub fn read(folder: &Path) -> io::Result<Vec<Theory>> {
     paths.map(|path| Ok(parse(stem(&path), &text(&path)?))).collect()
 }
 
+/// What a line begins with that belongs to no definition.
+const NONE: [&str; 5] = ["--", "use ", "infix ", "infixl ", "infixr "];
+
 fn parse(file: String, text: &str) -> Theory {
     let mut definitions: Vec<Definition> = Vec::new();
     let mut modules: Vec<(usize, &str)> = Vec::new();
@@ -67,7 +70,7 @@ fn parse(file: String, text: &str) -> Theory {
     for line in text.lines() {
         let bare = line.trim_start();
         let indent = line.len() - bare.len();
-        if bare.is_empty() || bare.starts_with("--") || bare.starts_with("use ") {
+        if bare.is_empty() || NONE.iter().any(|before| bare.starts_with(before)) {
             continue;
         }
         if let (Some(open), Some(last)) = (&mut open, definitions.last_mut()) {
@@ -157,8 +160,16 @@ pub fn taken(line: &str) -> Option<Use> {
     (!file.contains('.')).then(|| Use { of, file: file.to_owned(), names: Taken::These(names) })
 }
 
-/// The words of a text, with those before and after a dot as one: `held.Bad`.
+/// What an operator is between its operands: `>>=` of `◌>>=◌`. Another name is as it is.
+pub fn sign(name: &str) -> &str {
+    name.trim_matches('◌')
+}
+
+/// The words of a text, with those before and after a dot as one: `held.Bad`; and the signs of its operators, with that
+/// which joins the lines below `do`.
 pub fn words(text: &str) -> impl Iterator<Item = &str> {
     let is_part = |c: char| c.is_alphanumeric() || "_-'.".contains(c);
-    text.split(move |c| !is_part(c)).map(|word| word.trim_matches('.')).filter(|word| !word.is_empty())
+    let words = text.split(move |c| !is_part(c)).map(|word| word.trim_matches('.')).filter(|word| !word.is_empty());
+    let signs = text.split_whitespace().filter(move |word| !word.contains(is_part));
+    words.map(|word| if word == "do" { ">>=" } else { word }).chain(signs)
 }

@@ -89,7 +89,7 @@ fn every_name_is_there() {
 }
 
 /// Words of the language, and variables.
-const WORDS: [&str; 8] = ["requires", "ensures", "s", "p", "answer", "s.now", "s.old", "s.new"];
+const WORDS: [&str; 10] = ["requires", "ensures", "Result", "Option", "s", "p", "answer", "s.now", "s.old", "s.new"];
 
 /// What the names of a page are looked up in.
 struct Files<'a> {

@@ -1,17 +1,13 @@
-use Rattle.streamer.proofs.Runs.{read_began, read_more, read_stopped, grown_by}
 use native.Mathlib.Omega.{arith}
 use borrow.Author.Rules.{rules}
+use Rattle.streamer.proofs.Runs.{read_more, read_stopped}
 use Rattle.streamer.proofs.info.list_objects.Goals as goal
 
-pub loop-i-init : goal.loop-i-init
-loop-i-init c = (read_began _ _ _ _ _, (omega arith, omega arith))
+pub returns-in_err-rows : goal.returns-in_err-rows
+returns-in_err-rows c =
+    read_stopped c.loop-class.invariant.0 _ _ _ _ _ _ (omega arith) c.list_object.ensures.run c.in_err-rows.was (search rules)
 
-pub returns-in_default : goal.returns-in_default
-returns-in_default c =
-    read_stopped c.loop-i.invariant.0 _ _ _ _ (omega arith) c.list_object-r.ensures.0 c.in_default.is
-
-pub loop-i-preserved : goal.loop-i-preserved
-loop-i-preserved c =
-    let g = grown_by _ _ c.list_object-r.ensures.1 c.in-Next.is in
-    let more = read_more c.loop-i.invariant.0 _ c.list_object-r.ensures.0 c.in-Next.is (search rules) in
-    (more, (omega arith, omega (arith, g, c.loop-i.invariant.1)))
+pub loop-class-preserved : goal.loop-class-preserved
+loop-class-preserved c =
+    let more = read_more c.loop-class.invariant.0 _ c.list_object.ensures.run c.in_ok-rows.was (search rules) in
+    (more, omega (arith, c.in_ok-rows.ensures.grown, c.loop-class.invariant.1))
