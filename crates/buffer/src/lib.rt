@@ -5,13 +5,16 @@ ghost use Rattle.std.specs.Prelude.{◌≡◌};
 ghost use Rattle.wire.specs.Number.{be_bytes};
 ghost use Rattle.buffer.specs.Store.{put_front};
 
-// Copies bytes to the front of a part; where it is shorter than they are it stays as it was.
-#[tactic(auto, using(crate::proofs::Stores::copied, crate::proofs::Stores::put_out))]
+// Copies bytes to the front of a part; where it is shorter than they are it stays as it was. A loop: std's `copy_from_slice` is a call of
+// memmove, which the archive for C would then ask for.
+#[tactic(auto, using(crate::proofs::Stores::put_out, crate::proofs::Stores::store_began, crate::proofs::Stores::store_turn))]
 pub fn copy(part: &mut [u8], from: &[u8])
     ensures { part.new ≡ put_front part.old from.now }
 {
     if from.len() <= part.len() {
-        part[..from.len()].copy_from_slice(from);
+        for (i, byte) in from.iter().enumerate() {
+            part[i] = *byte;
+        }
     }
 }
 

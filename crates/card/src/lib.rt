@@ -108,9 +108,10 @@ fn copy_file(card: &[u8], end: usize, out: &mut [u8])
 }
 
 // Reads a card into an output: END, the file's length, with the file at the output's front and the bytes behind it as they were; the card
-// is then that of the file, and is refused once any one byte of it is changed. Refused, at 0 and with the output as it was: for each block
-// that END needs, and always block 0, in turn if it is missing or incomplete, for a wrong number and for a wrong check; then for nonzero
-// padding, bytes after the last block or an END below 100; then if the output is too short. The file is not audited.
+// is then that of the file, and is refused once any one byte of it is changed. Refused, at 0 with count 0 and the output as it was: for each
+// block that END needs, and always block 0, in turn Block if it is missing or incomplete, BlockNumber for a wrong number, BlockCheck for a
+// wrong check; then Padding for nonzero padding, bytes after the last block or an END below 100; then Room if the output is too short. The
+// file is not audited.
 pub fn read_card(card: &[u8], out: &mut [u8]) -> Result<usize, Fault>
     ensures { ReadsCard card.now out.old out.new (answer_of result) }
 {

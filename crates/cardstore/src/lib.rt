@@ -59,8 +59,8 @@ fn fit(n: usize, room: usize) -> bool
 }
 
 // Writes the card of a file into an output, whether the file passes an audit or not: the card's length, 512 times its blocks, with the card
-// at the output's front and the bytes behind it as they were; the reader gives a file back whose END is its length. Refused, at 0 and with
-// the output as it was, for too short an output or more than 2^32 blocks.
+// at the output's front and the bytes behind it as they were; the reader gives a file back whose END is its length. Refused, at 0 with count
+// 0 and the output as it was: Room for too short an output or more than 2^32 blocks.
 pub fn store_card(file: &[u8], card: &mut [u8]) -> Result<usize, Fault>
     ensures { StoresCard file.now card.old card.new (answer_of result) }
 {

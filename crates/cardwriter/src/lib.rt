@@ -12,7 +12,7 @@ use wire::fault::Fault;
 // Audits a file and writes its card into an output: the card's length, 512 times its blocks, with the card at the output's front,
 // the bytes behind it as they were, and the audit's rows in the tables. The reader gives the file back from the card, and a card from which
 // it gives this file is the card that is written. Refused with the output as it was and the tables all zero: the audit's own refusal; then
-// Room, at 0, for too short an output or more than 2^32 blocks.
+// Room, at 0 with count 0, for too short an output or more than 2^32 blocks.
 pub fn write_card(
     file: &[u8],
     out: &mut [u8],

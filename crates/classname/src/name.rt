@@ -70,7 +70,7 @@ fn candidate(len: usize, byte: u32) -> Option<usize>
     Some(be8(&CLASSES, first + i) as usize)
 }
 
-// The class that a byte string names.
+// The class that a byte string names, if there is one.
 pub fn class_of(name: &[u8]) -> Option<usize>
     ensures { result ≡ class_of name.now }
 {

@@ -16,7 +16,7 @@ pub struct Date {
     pub second: u32,
 }
 
-// The 32 bits of a date, which unpack to the same date; refused for a field out of its range.
+// The 32 bits of a date, which unpack to the same date; Date for a field out of its range.
 #[tactic(auto, using(crate::proofs::Dates::out_of_range))]
 pub fn pack_date(d: Date) -> Result<u32, Fault>
     ensures { Packs d (answer_of result) }

@@ -31,7 +31,7 @@ pub fn text_buffer() -> [u8; 73800]
 }
 
 // Writes the list of a file's pieces, audited with tables of 1,024 rows, or that the input is too long, at the front of a buffer, and
-// counts its bytes. Refused, and nothing is written, where the buffer cannot hold it.
+// counts its bytes. Room, and nothing is written, where the buffer cannot hold it.
 pub fn list(file: &[u8], out: &mut [u8]) -> Result<usize, Fault>
     ensures { Lists file.now out.old out.new (answer_of result) }
 {

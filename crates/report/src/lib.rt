@@ -36,7 +36,7 @@ fn heading_length(a: Answer) -> usize
     put_heading(&mut space, a)
 }
 
-// Writes a text at the front of a buffer, and counts its bytes. Refused, and nothing is written, where the buffer cannot
+// Writes a text at the front of a buffer, and counts its bytes. Room, and nothing is written, where the buffer cannot
 // hold it.
 pub fn write_text(text: &[u8], out: &mut [u8]) -> Result<usize, Fault>
     ensures { Wrote text.now out.old (answer_of result) out.new }

@@ -7,12 +7,14 @@ use native.Mathlib.Numerals.{add-one}
 use native.Mathlib.Omega.{arith}
 use borrow.Rule.Slice.PartMut.{mid_of, put_mid}
 use lib.ListN.{length, take, drop, set, get_or, length-append, length-set}
-use lib.Seq.{take_all, length-take-le, drop_at, drop-drop, set_split}
+use lib.Seq.{take_all, length-take-le, drop_at, set_split}
+use Rattle.buffer.specs.Store.{put_front}
+use Rattle.buffer.proofs.Stores.{front_part}
 use Rattle.wire.specs.Number.{be_bytes}
 use Rattle.wire.specs.Patch.{patch}
 use Rattle.wire.specs.Text.{prefix_bytes, prefix_size, text_bytes}
 use Rattle.wire.proofs.Numbers.{length_bytes}
-use Rattle.wire.proofs.Patches.{length_patch, patch_nil, patch_then, part_then}
+use Rattle.wire.proofs.Patches.{length_patch, patch_nil, part_then}
 use Rattle.wire.proofs.Texts.{length_prefix}
 use Rattle.writer.specs.Sized.{sized_extent, sized_bytes}
 
@@ -106,10 +108,10 @@ module _ {b : List ℕ} {ns : List (ℕ × ℕ)} {u : List ℕ} {at i : ℕ} (h 
   lay_ended l = h.is ∙ ap (λ (x : List (ℕ × ℕ)). patch b 0 (sized_bytes x)) (take_all i ns l)
 
 -- the length, then the string
-pub text_whole : (b t : List ℕ) {at k : ℕ} {u : List ℕ} → at ≡ prefix_size (length t) → k ≡ length t → u ≡ patch b 0 (prefix_bytes (length t))
-    → at + length t ≤ length b → put_mid at k u t ≡ patch b 0 (text_bytes t)
-unfolding text_bytes patch
-text_whole b t {at} {k} {u} e f i l =
+pub text_whole : (b t : List ℕ) {at : ℕ} {u ys : List ℕ} → at ≡ prefix_size (length t) → u ≡ patch b 0 (prefix_bytes (length t))
+    → at + length t ≤ length b → ys ≡ put_front (mid_of at (length u - at) u) t → put_mid at (length u - at) u ys ≡ patch b 0 (text_bytes t)
+unfolding text_bytes
+text_whole b t {at} {u} {ys} e i l g =
     let n : length (prefix_bytes (length t)) ≡ at = length_prefix (length t) ∙ sym e in
-    let w : put_mid at k u t ≡ patch u (0 + length (prefix_bytes (length t))) t = rw (n, f, zero-add, drop-drop) refl in
-    patch_then b 0 (prefix_bytes (length t)) t i w (omega arith)
+    let m : length u ≡ length b = ap length i ∙ length_patch b 0 (prefix_bytes (length t)) (omega (arith, n, l)) in
+    part_then b 0 (prefix_bytes (length t)) t at i (omega (arith, n)) (omega (arith, l)) (front_part u t at (omega (arith, m, l)) g)

@@ -5,6 +5,7 @@ ghost use Rattle.wire.specs.Patch.{patch};
 ghost use Rattle.wire.specs.Text.{prefix_bytes, prefix_size, text_size, text_bytes};
 ghost use Rattle.writer.specs.Sized.{sized_extent, sized_bytes};
 
+use buffer::copy;
 use wire::text::{LEAST_LONG, LONG_PREFIX};
 
 // Writes a number as w bytes at the front of a part.
@@ -54,7 +55,6 @@ pub(crate) fn put_text(part: &mut [u8], t: &[u8]) -> usize
     ensures { (result ≡ text_size (length t.now)) × (part.new ≡ patch part.old 0 (text_bytes t.now)) }
 {
     let prefix = put_length(&mut *part, t.len());
-    let size = prefix + t.len();
-    part[prefix..size].copy_from_slice(t);
-    size
+    copy(&mut part[prefix..], t);
+    prefix + t.len()
 }
