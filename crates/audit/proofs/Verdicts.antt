@@ -1,5 +1,5 @@
 -- The verdict, case by case, and the tables with it.
-use Prim.Native.Nat.{ℕ, ◌+◌, ◌<◌, ◌≤◌, min}
+use Prim.Native.Nat.{zero, suc, ℕ, ◌+◌, ◌<◌, ◌≤◌, min}
 use mathlib.Core.List.{List, ◌++◌}
 use mathlib.Core.Logic.{◌⊎◌, inl, inr, ⊎_elim}
 use mathlib.Core.Path.{◌≡◌, refl, sym, ap, ◌∙◌, subst}
@@ -233,10 +233,19 @@ module _ {v : Verdict} {a : Answer} {t u w : List ℕ} (x : Examined v a t u w) 
   pub rows_none : {n : ℕ} → (a.number ≡ 0 → ⊥) → n ≡ 0 → Rows v n t u w
   rows_none z e = record { count = e ∙ no_rows v (λ i. z (x.0.number ∙ i)); filled = x.1 }
 
+-- both at once
+pub rows_either : {v : Verdict} {a : Answer} {t u w : List ℕ} → Examined v a t u w → {n : ℕ} → (a.number ≡ 0 → n ≡ a.count)
+    → ((a.number ≡ 0 → ⊥) → n ≡ 0) → Rows v n t u w
+rows_either {v} {a} {t} {u} {w} x {n} f g = go a.number refl
+  where
+    go : (m : ℕ) → a.number ≡ m → Rows v n t u w
+    go zero e = rows_some x e (f e)
+    go (suc k) e = let z : a.number ≡ 0 → ⊥ = λ (i : a.number ≡ 0). omega arith in rows_none x z (g z)
+
 -- the rows of what was answered
 pub rows_of : {v : Verdict} {t u w : List ℕ} (r : Result ℕ Fault) {n : ℕ} → Examined v (answer_of r) t u w → n ≡ result_unwrap_or r 0 → Rows v n t u w
-rows_of (Ok n) x e = rows_some x refl e
-rows_of (Err f) x e = rows_none x (number_some f.reason) e
+rows_of (Ok n) x e = rows_either x (λ z. e) (λ z. absurd (z refl))
+rows_of (Err f) x e = rows_either x (λ z. absurd (number_some f.reason z)) (λ z. e)
 
 begins_table : (xs t r u : List ℕ) {n : ℕ} → Begins xs t → n ≡ length xs → length t ≡ length r → u ≡ cleared t n → u ≡ filled xs (length r)
 begins_table xs t r u b e l f = f ∙ rw (e, b, l)

@@ -3,7 +3,7 @@ use Prim.Native.Nat.{ℕ, ◌<◌}
 use mathlib.Core.List.{List, []}
 use mathlib.Core.Path.{◌≡◌, refl, sym, ap, ◌∙◌}
 use lib.ListN.{length, get_or}
-use Rattle.std.specs.Prelude.{Option, Some, None}
+use Rattle.std.specs.Prelude.{Option, Some, None, position}
 use Rattle.std.proofs.lemmas.List.Quantifiers.{position-Some}
 use Rattle.std.proofs.lemmas.Option.{same_Some}
 use Rattle.wire.specs.Equal.{eq_bytes}
@@ -13,6 +13,10 @@ use Rattle.classname.specs.Name.{class_names, classes, name_of, class_of, Classi
 use Rattle.classname.specs.Length.{deciding_byte, candidate_of}
 use Rattle.classname.proofs.Finds.{position_None}
 use Rattle.classname.proofs.Lengths.{own_candidate}
+
+-- a byte string has no class past the last of a list
+class_most : (ns : List (List ℕ)) (x : List ℕ) {i : ℕ} → position (eq_bytes x) ns ≡ Some i → i < length ns
+class_most ns x {i} e = (position-Some (eq_bytes x) ns i [] e).0
 
 -- two classes with one name are one
 same_class : (c d : ℕ) → c < classes → d < classes → name_of c ≡ name_of d → c ≡ d
@@ -27,7 +31,7 @@ each_name s = record { named = named; only = only; none = none }
     only : (c : ℕ) → class_of s ≡ Some c → (c < classes) × (name_of c ≡ s)
     only c e =
         let h = position-Some (eq_bytes s) class_names c [] e in
-        (h.0, sym (eq_same s (get_or class_names c []) h.1))
+        (class_most class_names s e, sym (eq_same s (get_or class_names c []) h.1))
 
     other : class_of s ≡ None → (c : ℕ) → c < classes → name_of c ≡ s → ⊥
     other e c l i =

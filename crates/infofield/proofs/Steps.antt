@@ -5,15 +5,15 @@ use mathlib.Core.Path.{◌≡◌, refl, sym, ◌∙◌}
 use native.Mathlib.Omega.{arith}
 use native.Mathlib.Nat.{suc-add, zero-add}
 use native.Mathlib.Numerals.{add-one}
-use borrow.Author.Tests.{le-leb, lt-leb}
-use Rattle.std.specs.Prelude.{Some, Result, Ok, Err, IfOk}
+use borrow.Author.Tests.{le-leb, lt-leb, ne_eqb}
+use Rattle.std.specs.Prelude.{Option, Some, Result, Ok, Err, IfOk}
 use Rattle.wire.specs.Check.{All}
 use Rattle.wire.specs.declared.fault.Fault.{Fault}
 use Rattle.wire.specs.Text.{text_in}
 use Rattle.wire.specs.declared.text.Text.{Text}
 use Rattle.wire.proofs.Texts.{stands}
 use Rattle.wire.proofs.Checks.{picked, not_picked}
-use Rattle.infofield.specs.Field.{◌>>=◌, bad_field, field_at, numbers_at, end_of, counts, count_at}
+use Rattle.infofield.specs.Field.{◌>>=◌, bad_field, field_at, numbers_at, end_of, counts, count_at, ended_at, text_field_at}
 
 -- one field
 pub field_out : (n p e : ℕ) → e < p + n → field_at n p e ≡ Err (bad_field p)
@@ -23,6 +23,11 @@ field_out n p e h = rw (lt-leb (p + n) e h)
 pub field_in : (n p e : ℕ) → p + n ≤ e → field_at n p e ≡ Ok (p + n)
 unfolding field_at
 field_in n p e h = rw (le-leb (p + n) e h)
+
+-- an object that ends early
+pub not_ended : (p e : ℕ) → (p ≡ e → ⊥) → Err (bad_field p) ≡ ended_at p e
+unfolding ended_at
+not_ended p e h = rw (ne_eqb p e h)
 
 -- numbers in a row
 module _ (at end : ℕ) where
@@ -50,7 +55,12 @@ pub after_step : {A B : Type 0} (x : Result A Fault) (f : A → Result B Fault) 
 after_step (Ok a) f P h = h a refl
 after_step (Err d) f P h = tt
 
--- a string that was read starts before the end
+-- a string that was read is passed over whole
+pub text_in_law : (s : List ℕ) (p e : ℕ) {y : Option Text} {t : Text} → y ≡ text_in s p e → y ≡ Some t → Ok t.next ≡ text_field_at s p e
+unfolding text_field_at
+text_in_law s p e {y} {t} d g = rw (sym d ∙ g)
+
+-- and starts before the end
 pub text_before : (s : List ℕ) (p e : ℕ) (t : Text) → text_in s p e ≡ Some t → p < e
 text_before s p e t i = let d = stands s p e (sym i) in omega (arith, d.start, d.content, d.fits)
 

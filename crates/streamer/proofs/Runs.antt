@@ -1,19 +1,20 @@
 -- Runs: an answer with the tags and the table at exit.
 use Prim.Native.Nat.{ℕ, zero, suc, ◌+◌, ◌-◌, ◌/◌, ◌<◌, ◌≤◌}
 use mathlib.Core.List.{List, [], ◌∷◌, ◌++◌}
-use mathlib.Core.Path.{◌≡◌, refl, ap, ◌∙◌}
+use mathlib.Core.Path.{◌≡◌, refl, sym, ap, ◌∙◌}
 use native.Mathlib.Nat.{add-zero, zero-add, suc-add}
 use native.Mathlib.Numerals.{add-one}
 use native.Mathlib.Omega.{arith}
 use borrow.Author.Tests.{le-leb, lt-leb}
 use lib.ListN.{length, length-append}
-use Rattle.std.specs.Prelude.{Result, Ok, Err}
+use Rattle.std.specs.Prelude.{Result, Ok, Err, IfOk}
 use Rattle.wire.specs.Answer.{done}
 use Rattle.wire.specs.Fault.{fault_answer}
 use Rattle.wire.specs.declared.Answer.{Answer}
 use Rattle.table.specs.Table.{filled}
 use Rattle.wire.specs.declared.fault.Fault.{Fault}
 use Rattle.infofield.specs.Field.{◌>>=◌}
+use Rattle.infofield.proofs.Steps.{after_step}
 use Rattle.inforow.specs.Row.{flat, put_row, put_rows}
 use Rattle.inforow.specs.declared.Row.{Row}
 use Rattle.inforow.proofs.Tables.{more_rows, all_rows}
@@ -34,6 +35,10 @@ pub one_row : (run : Run) (t : List ℕ) (n : ℕ) (us u : List ℕ) (ts : List 
 unfolding Ran put_rows
 one_row run t n us u ts r p e g h = rw e (refl, (g, h))
 
+-- no step after an answer that stopped
+pub stepped_wrong : (a : Result Rows Fault) (f : ℕ → Result ℕ Fault) {d : Fault} → a ≡ Err d → a ≡ stepped a f
+stepped_wrong a f g = rw g
+
 -- a step after what was read
 pub ran_onward : (run : Run) (t : List ℕ) (n : ℕ) (f : ℕ → Result ℕ Fault) (a b : Result Rows Fault) (us u : List ℕ) → Ran run t n a us u
     → b ≡ stepped a f → Ran (onward run f) t n b us u
@@ -44,12 +49,31 @@ ran_onward (Ok x) t n f a b us u h g = rw (g, h.0) (go (f x.next))
         (y >>= (λ q. Ok (record { next = q; count = n + length x.rows }))) us u
     go (Ok q) = (refl, h.1)
     go (Err d) = (refl, tt)
-ran_onward (Err d) t n f a b us u h g = rw (g, h.0) (refl, tt)
+ran_onward (Err d) t n f a b us u h g = (g ∙ sym (stepped_wrong a f h.0) ∙ h.0, tt)
 
 -- the ends of two objects after what was read
 pub ran_ends : (run : Run) (t : List ℕ) (n : ℕ) (f g : ℕ → Result ℕ Fault) (a b : Result Rows Fault) (us u : List ℕ) → Ran run t n a us u
     → b ≡ stepped (stepped a f) g → Ran (onward (onward run f) g) t n b us u
 ran_ends run t n f g a b us u h e = ran_onward (onward run f) t n g (stepped a f) b us u (ran_onward run t n f a (stepped a f) us u h refl) e
+
+-- a step adds no row
+stepped_grown : (m : ℕ) (f : ℕ → Result ℕ Fault) (a : Result Rows Fault) → IfOk a (λ r. r.count ≤ m) → IfOk (stepped a f) (λ r. r.count ≤ m)
+stepped_grown m f (Ok x) h = after_step {B = Rows} (f x.next) (λ q. Ok (record { next = q; count = x.count })) (λ r. r.count ≤ m) (λ q e. h)
+stepped_grown m f (Err d) h = tt
+
+-- a run of at most k rows: one that stopped, one by another name, and a step after it
+module _ (t : List ℕ) (n k : ℕ) (us u : List ℕ) where
+  abbrev Grows : Run → Result Rows Fault → Type 0
+  Grows run a = Ran run t n a us u × IfOk a (λ r. r.count ≤ n + k)
+
+  pub run_stop : {run : Run} {d : Fault} → Err d ≡ run → Grows run (Err d)
+  run_stop {run} {d} e = (ran_stop run t n (Err d) us u d (sym e) refl, tt)
+
+  pub run_as : {run run' : Run} (a : Result Rows Fault) → run ≡ run' → Grows run a → Grows run' a
+  run_as a e h = rw e at h
+
+  pub run_onward : (run : Run) (f : ℕ → Result ℕ Fault) (a b : Result Rows Fault) → Grows run a → b ≡ stepped a f → Grows (onward run f) b
+  run_onward run f a b h g = (ran_onward run t n f a b us u h.0 g, rw g (stepped_grown (n + k) f a h.1))
 
 -- objects one after the other: after k of them from p with the tags ts, the tags us, the rows r and the table u
 pub record Reading (f : ℕ → List ℕ → ℕ → Run) (ts : List ℕ) (p : ℕ) (t : List ℕ) (n k : ℕ) (us : List ℕ) (r : Rows) (u : List ℕ) : Type 0 where
@@ -127,6 +151,10 @@ module _ (n : ℕ) where
   abbrev Answers : Run → Answer → List ℕ → Type 0
   Answers run a u = (a ≡ answered run n) × (u ≡ filled (flat (shown run n)) n)
 
+  stop_of : (run : Run) (t u : List ℕ) (d : Fault) (us : List ℕ) → Ran run t 0 (Err d) us u → Answers run (fault_answer d) (filled [] n)
+  unfolding flat
+  stop_of run t u d us h = rw (stop_is run t 0 d us u h) (refl, refl)
+
   pub answer_rows : (run : Run) (t u : List ℕ) {a : Result Rows Fault} {r : Rows} → Ended run t a u → t ≡ filled [] n → a ≡ Ok r
       → r.count ≤ n / 6 → Answers run (done r.count) u
   unfolding Ended Ran
@@ -154,9 +182,5 @@ module _ (n : ℕ) where
             (rw f (ap too_many k), rw f (i ∙ ap (filled []) j))
 
     pub answer_stop : {d : Fault} → a ≡ Err d → Answers run (fault_answer d) v
-    unfolding Ended Ran flat
-    answer_stop {d} = go run h
-      where
-        go : (x : Run) → Ended x t a u → a ≡ Err d → Answers x (fault_answer d) v
-        go (Ok x) h e = let g = h.1.0 in let z : ◌≡◌ {A = ℕ} 0 1 = cc in absurd (omega arith)
-        go (Err f) h e = let g = h.1.0 in let o : d ≡ f = cc in (ap fault_answer o, i ∙ ap (filled []) j)
+    unfolding Ended
+    answer_stop {d} e = let y = stop_of run t u d h.0 (rw e at h.1) in (y.0, i ∙ ap (filled []) j ∙ y.1)

@@ -24,7 +24,7 @@ use Rattle.rules.proofs.Partitions.{above, sized_at}
 use Rattle.audit.specs.Tables.{AuditsWithin}
 use Rattle.view.specs.View.{no_row, rows, rows_of, row_at, up_to, Views}
 use Rattle.view.specs.declared.Row.{Row}
-use Rattle.view.proofs.Lists.{size_none, size_some, length_up_to}
+use Rattle.view.proofs.Lists.{size_none, size_some, row_is, length_up_to}
 
 -- a piece has the size that its bytes give
 size_is : (s : List ℕ) (p : ℕ) → 0 < size_of (piece_at s p) → size_at s p ≡ size_of (piece_at s p)
@@ -71,14 +71,14 @@ count_rows s (q ∷ qs) (p ∷ ps) (o ∷ os) h = ap suc (count_rows s qs ps os 
 
 rows_at : (s qs ps os : List ℕ) → Sized s qs ps os → (i : ℕ) → row_at s qs ps os i ≡ get_or (rows s qs ps os) i no_row
 unfolding row_at
-rows_at s [] [] [] h i = ap (λ (z : ℕ). record { start = 0; size = z; part = 0; owner = 0 }) (sym (size_none s 0 refl))
+rows_at s [] [] [] h i = sym (row_is s [] [] [] i refl (size_none s 0 refl) refl refl)
 rows_at s [] (p ∷ ps) os h i = absurd (omega (arith, h.parts))
 rows_at s [] [] (o ∷ os) h i = absurd (omega (arith, h.owners))
 rows_at s (q ∷ qs) [] os h i = absurd (omega (arith, h.parts))
 rows_at s (q ∷ qs) (p ∷ ps) [] h i = absurd (omega (arith, h.owners))
 rows_at s (q ∷ qs) (p ∷ ps) (o ∷ os) h zero =
-    ap (λ (z : ℕ). record { start = q; size = z; part = p; owner = o })
-    (sym (size_some s q (h.some 0 (omega arith))) ∙ size_is s q (h.sized 0 (omega arith)))
+    let z = sym (size_is s q (h.sized 0 (omega arith))) ∙ size_some s q (h.some 0 (omega arith)) in
+    sym (row_is s (q ∷ qs) (p ∷ ps) (o ∷ os) 0 refl z refl refl)
 rows_at s (q ∷ qs) (p ∷ ps) (o ∷ os) h (suc i) = rows_at s qs ps os (rest h) i
 
 rows_filled : (s qs ps os : List ℕ) → Sized s qs ps os → (a b c i : ℕ)
