@@ -249,8 +249,9 @@ pub extern "C" fn rootmap_view(
 {
     let limit = list.len();
     let seen = audit::audit_within(file, start, part, owner, limit, true);
+    let number = tell(seen, place, count);
     view::show(file, start, part, owner, list);
-    tell(seen, place, count)
+    number
 }
 
 // Salvages a file whose chain is broken: 0, the first fault p and the place q after it from which pieces fill the file to its end, with a gap

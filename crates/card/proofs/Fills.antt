@@ -39,11 +39,10 @@ module _ (c : List ℕ) {e : ℕ} (i : e ≡ end_of c) (t : fault_from c (needed
   pub more_bytes : {n : ℕ} → n ≡ blocks_for e → (length c ≡ n * 512 → ⊥) → false ≡ all (closed c)
   more_bytes j l = sym (not_all (closed c) (λ h. l (h.1.0 ∙ ap (λ (k : ℕ). k * 512) (sym (count_is j)))))
 
-  pub by_padding : {n : ℕ} {r : Bool} → n ≡ blocks_for e → 100 ≤ e → length c ≡ n * 512
-      → r ≡ zeros (take (n * 512 - 4 - (e + n * 8 - 4)) (drop (e + n * 8 - 4) c)) → r ≡ all (closed c)
-  by_padding {n} {r} j l m z =
-      let p : padding_of c ≡ take (n * 512 - 4 - (e + n * 8 - 4)) (drop (e + n * 8 - 4) c)
-      = padding_there c t (count_is j) (ap (λ (k : ℕ). k + n * 8 - 4) i) refl in
+  pub by_padding : {n a : ℕ} {r : Bool} → n ≡ blocks_for e → 100 ≤ e → length c ≡ n * 512 → a ≡ e + n * 8 - 4
+      → r ≡ zeros (take (n * 512 - 4 - a) (drop a c)) → r ≡ all (closed c)
+  by_padding {n} {a} {r} j l m f z =
+      let p : padding_of c ≡ take (n * 512 - 4 - a) (drop a c) = padding_there c t (count_is j) (f ∙ ap (λ (k : ℕ). k + n * 8 - 4) i) refl in
       sym
       (rw (le-leb 100 (end_of c) (omega arith), eq-eqb (length c) (needed c * 512) (omega (arith, count_is j)), and-true, p) (sym z))
 

@@ -5,7 +5,7 @@ use Rattle.capi.proofs.rootmap_view.Goals as goal
 pub returns : goal.returns
 returns c =
     let k = c.audit_within-seen.ensures in
-    rw c.tell.ensures
+    rw c.tell-number.ensures
     (views
     (record {
       number = k.number;

@@ -8,4 +8,4 @@ returns-then-card-long c =
 
 pub returns : goal.returns
 returns c =
-    by_padding _ c.requires.0 c.requires.1 c.blocks_for-n.ensures (omega arith) (omega arith) c.all_zero.ensures
+    by_padding _ c.requires.0 c.requires.1 c.blocks_for-n.ensures (omega arith) (omega arith) (omega arith) c.all_zero.ensures
